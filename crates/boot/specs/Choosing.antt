@@ -1,0 +1,84 @@
+-- The boot choice (01, "Choosing how to boot"; 000, 16.3.2).
+use Prim.Native.Nat.{ℕ, _+_}
+use mathlib.Core.List.{List}
+use mathlib.Core.Bool.{Bool, false, cond, _&&_}
+use lib.ListN.{length, replicate}
+use lib.Dec.{leb, eqb}
+use Rattle.octets.specs.Read.{wordAt}
+use Rattle.boot.specs.declared.Asked.{Asked}
+use Rattle.boot.specs.declared.Entered.{Entered}
+use Rattle.boot.specs.declared.Mode.{Mode}
+use Rattle.boot.specs.declared.Look.{Look}
+use Rattle.boot.specs.declared.Row.{Row}
+use Rattle.boot.specs.declared.Choice.{Choice}
+use Rattle.boot.specs.Places.{flashPlaces, headPlaces, walk, watchdogAt, bus16At}
+use Rattle.boot.specs.Table.{asked, row}
+
+-- "BOOTCFG (0 to 3); the flash from address 0 (at most 2,097,152 bytes, any shorter length too); 12 shadow bytes ..; the first 8 bytes
+-- of external memory"
+abbrev pub allowed : ℕ → List ℕ → List ℕ → List ℕ → Bool
+allowed bootcfg flash shadow head =
+    leb bootcfg 3 && leb (length flash) 2097152 && eqb (length shadow) 12 && eqb (length head) 8
+
+-- number 9, "number only"
+abbrev pub refused : Choice
+refused =
+    record
+    { number = 9
+    ; mode = Mode.None
+    ; place = 0
+    ; looked = 0
+    ; jump = 0
+    ; watchdog = false
+    ; bus16 = false
+    ; flash = false
+    ; nexus = false
+    ; password = replicate 8 0 }
+
+-- from a good place: "the answer carries that place"; "The jump address is the word at place + 4."
+abbrev pub boots : Mode → List ℕ → Look → Row → Choice
+boots mode memory look row =
+    record
+    { number = 0
+    ; mode = mode
+    ; place = look .place
+    ; looked = look .looked
+    ; jump = wordAt memory (look .place + 4)
+    ; watchdog = watchdogAt memory (look .place)
+    ; bus16 = bus16At memory (look .place)
+    ; flash = row .flash
+    ; nexus = row .nexus
+    ; password = row .password }
+
+-- "In a serial choice the place, jump address and both flags are 0."; "A fallback to serial keeps its row's flash, Nexus and password."
+abbrev pub serial : Entered → ℕ → Row → Choice
+serial entered looked row =
+    record
+    { number = 0
+    ; mode = Mode.Serial entered
+    ; place = 0
+    ; looked = looked
+    ; jump = 0
+    ; watchdog = false
+    ; bus16 = false
+    ; flash = row .flash
+    ; nexus = row .nexus
+    ; password = row .password }
+
+-- Internal: "With no good place: serial."; External: "bad means serial."
+unfoldable pub settled : Mode → Entered → List ℕ → Look → Row → Choice
+settled mode entered memory look row =
+    cond (look .found) (boots mode memory look row) (serial entered (look .looked) row)
+
+-- Internal, External, and "BOOTCFG 1: serial, count 0"; how serial was entered decides its MMU rows (000, 16.3.2.3.1)
+unfoldable pub chosen : Asked → List ℕ → List ℕ → List ℕ → Choice
+chosen Asked.Internal flash shadow head =
+    settled Mode.Internal Entered.FromInternal flash (walk flash 0 flashPlaces) (row Asked.Internal shadow)
+chosen Asked.External flash shadow head =
+    settled Mode.External Entered.FromExternal head (walk head 0 headPlaces) (row Asked.External shadow)
+chosen Asked.Serial flash shadow head = serial Entered.Directly 0 (row Asked.Serial shadow)
+
+-- the answer of the call, for every input
+unfoldable pub choice : ℕ → List ℕ → List ℕ → List ℕ → Choice
+choice bootcfg flash shadow head =
+    cond (allowed bootcfg flash shadow head) (chosen (asked bootcfg) flash shadow head) refused

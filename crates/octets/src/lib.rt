@@ -1,0 +1,61 @@
+// Reads of a byte and of a big-endian number that answer for every place of every slice.
+ghost use mathlib.Core.Path.{_≡_};
+ghost use Prim.Native.Nat.{_+_, _*_};
+ghost use Rattle.octets.specs.Read.{byteAt, halfAt, wordAt, firstEight};
+
+// The byte at a place, or 0 past the end.
+pub fn byte(s: &[u8], at: usize) -> u8
+    ensures { λ r. ⌜ r ≡ byteAt (now (s .entry)) at ⌝ }
+{
+    if at < s.len() {
+        return s[at];
+    }
+    0
+}
+
+// The number that two bytes are, the higher first.
+pub fn joined(high: u8, low: u8) -> u16
+    ensures { λ r. ⌜ r ≡ high * 256 + low ⌝ }
+{
+    (high as u16) * 256 + (low as u16)
+}
+
+// The half word at a place.
+pub fn half(s: &[u8], at: usize) -> u16
+    ensures { λ r. ⌜ r ≡ halfAt (now (s .entry)) at ⌝ }
+{
+    if at < s.len() {
+        let high = byte(s, at);
+        let low = byte(s, at + 1);
+        return joined(high, low);
+    }
+    0
+}
+
+// The word at a place.
+pub fn word(s: &[u8], at: usize) -> u32
+    ensures { λ r. ⌜ r ≡ wordAt (now (s .entry)) at ⌝ }
+{
+    if at < s.len() {
+        let high = half(s, at);
+        let low = half(s, at + 2);
+        return (high as u32) * 65536 + (low as u32);
+    }
+    0
+}
+
+// The first eight bytes.
+pub fn first_eight(s: &[u8]) -> [u8; 8]
+    ensures { λ r. ⌜ r ≡ firstEight (now (s .entry)) ⌝ }
+{
+    [
+        byte(s, 0),
+        byte(s, 1),
+        byte(s, 2),
+        byte(s, 3),
+        byte(s, 4),
+        byte(s, 5),
+        byte(s, 6),
+        byte(s, 7),
+    ]
+}
