@@ -10,6 +10,8 @@ use Rattle.boot.specs.declared.Entered.{Entered}
 use Rattle.boot.specs.declared.Mode.{Mode}
 use Rattle.boot.specs.declared.Look.{Look}
 use Rattle.boot.specs.declared.Row.{Row}
+use Rattle.boot.specs.declared.Boot.{Boot}
+use Rattle.boot.specs.declared.Answer.{Answer}
 use Rattle.boot.specs.declared.Choice.{Choice}
 use Rattle.boot.specs.Places.{flashPlaces, headPlaces, walk, watchdogAt, bus16At}
 use Rattle.boot.specs.Table.{asked, row}
@@ -22,47 +24,40 @@ allowed bootcfg flash shadow head =
 
 -- number 9, "number only"
 abbrev pub refused : Choice
-refused =
-    record
-    { number = 9
-    ; mode = Mode.None
-    ; place = 0
-    ; looked = 0
-    ; jump = 0
-    ; watchdog = false
-    ; bus16 = false
-    ; flash = false
-    ; nexus = false
-    ; password = replicate 8 0 }
+refused = record { answer = Answer.Refused; password = replicate 8 0 }
 
 -- from a good place: "the answer carries that place"; "The jump address is the word at place + 4."
 abbrev pub boots : Mode → List ℕ → Look → Row → Choice
 boots mode memory look row =
     record
-    { number = 0
-    ; mode = mode
-    ; place = look .place
-    ; looked = look .looked
-    ; jump = wordAt memory (look .place + 4)
-    ; watchdog = watchdogAt memory (look .place)
-    ; bus16 = bus16At memory (look .place)
-    ; flash = row .flash
-    ; nexus = row .nexus
+    { answer =
+        Answer.Boots
+        (record
+        { mode = mode
+        ; place = look .place
+        ; looked = look .looked
+        ; jump = wordAt memory (look .place + 4)
+        ; watchdog = watchdogAt memory (look .place)
+        ; bus16 = bus16At memory (look .place)
+        ; flash = row .flash
+        ; nexus = row .nexus })
     ; password = row .password }
 
 -- "In a serial choice the place, jump address and both flags are 0."; "A fallback to serial keeps its row's flash, Nexus and password."
 abbrev pub serial : Entered → ℕ → Row → Choice
 serial entered looked row =
     record
-    { number = 0
-    ; mode = Mode.Serial entered
-    ; place = 0
-    ; looked = looked
-    ; jump = 0
-    ; watchdog = false
-    ; bus16 = false
-    ; flash = row .flash
-    ; nexus = row .nexus
+    { answer =
+        Answer.Boots
+        (record
+        { mode = Mode.Serial entered
+        ; place = 0
+        ; looked = looked
+        ; jump = 0
+        ; watchdog = false
+        ; bus16 = false
+        ; flash = row .flash
+        ; nexus = row .nexus })
     ; password = row .password }
 
 -- Internal: "With no good place: serial."; External: "bad means serial."
@@ -82,3 +77,13 @@ chosen Asked.Serial flash shadow head = serial Entered.Directly 0 (row Asked.Ser
 unfoldable pub choice : ℕ → List ℕ → List ℕ → List ℕ → Choice
 choice bootcfg flash shadow head =
     cond (allowed bootcfg flash shadow head) (chosen (asked bootcfg) flash shadow head) refused
+
+-- the numbers of the answers (01, "What the head says back")
+abbrev pub numberOf : Answer → ℕ
+numberOf Answer.Refused = 9
+numberOf (Answer.Boots boot) = 0
+
+-- the number of places looked at, 0 where the call was refused
+abbrev pub lookedOf : Answer → ℕ
+lookedOf Answer.Refused = 0
+lookedOf (Answer.Boots boot) = boot .looked

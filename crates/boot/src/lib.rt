@@ -1,10 +1,10 @@
 // The boot choice (01, "Choosing how to boot"; 000, 16.3.2): from BOOTCFG, the flash, the shadow row and the first bytes of external
 // memory to how the head boots.
 ghost use mathlib.Core.Path.{_≡_};
-ghost use mathlib.Core.List.{List};
+ghost use Prim.Native.Nat.{_≤_};
 ghost use Rattle.boot.specs.Places.{flashPlaces, headPlaces, good, walk, watchdogAt, bus16At};
 ghost use Rattle.boot.specs.Table.{asked, control55AA, rowOf, row};
-ghost use Rattle.boot.specs.Choosing.{allowed, refused, boots, serial, settled, chosen, choice};
+ghost use Rattle.boot.specs.Choosing.{allowed, boots, serial, settled, chosen, choice, lookedOf};
 
 // What BOOTCFG asks for.
 pub enum Asked {
@@ -20,9 +20,8 @@ pub enum Entered {
     FromExternal,
 }
 
-// How the head boots; `None` where the call was refused.
+// How the head boots.
 pub enum Mode {
-    None,
     Internal,
     External,
     Serial(Entered),
@@ -42,9 +41,8 @@ pub struct Look {
     pub looked: u8,
 }
 
-// The answer: number 0 with the choice, or number 9 with zeroes.
-pub struct Choice {
-    pub number: u8,
+// How the head boots, from where, and what is on.
+pub struct Boot {
     pub mode: Mode,
     pub place: u32,
     pub looked: u8,
@@ -53,6 +51,17 @@ pub struct Choice {
     pub bus16: bool,
     pub flash: bool,
     pub nexus: bool,
+}
+
+// The answer: number 9, or number 0 with the boot (`numberOf` of specs/).
+pub enum Answer {
+    Refused,
+    Boots(Boot),
+}
+
+// The answer with the password selected, which is zeroes where the call was refused.
+pub struct Choice {
+    pub answer: Answer,
     pub password: [u8; 8],
 }
 
@@ -144,31 +153,11 @@ fn is_allowed(bootcfg: u8, flash: &[u8], shadow: &[u8], head: &[u8]) -> bool
     (bootcfg <= 3) & (flash.len() <= 2097152) & (shadow.len() == 12) & (head.len() == 8)
 }
 
-// The answer with number 9.
-fn refusal() -> Choice
-    ensures { λ r. ⌜ r ≡ refused ⌝ }
-{
-    Choice {
-        number: 9,
-        mode: Mode::None,
-        place: 0,
-        looked: 0,
-        jump: 0,
-        watchdog: false,
-        bus16: false,
-        flash: false,
-        nexus: false,
-        password: [0; 8],
-    }
-}
-
 // The choice of a serial boot.
 fn serial_boot(entered: Entered, looked: u8, row: Row) -> Choice
     ensures { λ r. ⌜ r ≡ serial entered looked row ⌝ }
 {
-    let password = row.password;
-    Choice {
-        number: 0,
+    let boot = Boot {
         mode: Mode::Serial(entered),
         place: 0,
         looked: looked,
@@ -177,8 +166,9 @@ fn serial_boot(entered: Entered, looked: u8, row: Row) -> Choice
         bus16: false,
         flash: row.flash,
         nexus: row.nexus,
-        password: password,
-    }
+    };
+    let password = row.password;
+    Choice { answer: Answer::Boots(boot), password: password }
 }
 
 // The choice of a boot from a good place.
@@ -187,20 +177,18 @@ fn boot_from(mode: Mode, memory: &[u8], look: Look, row: Row) -> Choice
 {
     let at = look.place as usize;
     let first = octets::byte(memory, at);
-    let jump = octets::word(memory, at + 4);
-    let password = row.password;
-    Choice {
-        number: 0,
+    let boot = Boot {
         mode: mode,
         place: look.place,
         looked: look.looked,
-        jump: jump,
+        jump: octets::word(memory, at + 4),
         watchdog: first / 4 % 2 == 1,
         bus16: first / 2 % 2 == 1,
         flash: row.flash,
         nexus: row.nexus,
-        password: password,
-    }
+    };
+    let password = row.password;
+    Choice { answer: Answer::Boots(boot), password: password }
 }
 
 // The choice after a walk: a boot from the place found, or serial boot.
@@ -241,10 +229,11 @@ fn chosen_for(asked: Asked, flash: &[u8], shadow: &[u8], head: &[u8]) -> Choice
 
 // The boot choice, for every input.
 pub fn choose(bootcfg: u8, flash: &[u8], shadow: &[u8], head: &[u8]) -> Choice
-    ensures { λ r. ⌜ r ≡ choice bootcfg (now (flash .entry)) (now (shadow .entry)) (now (head .entry)) ⌝ }
+    ensures choice { λ r. ⌜ r ≡ choice bootcfg (now (flash .entry)) (now (shadow .entry)) (now (head .entry)) ⌝ }
+    ensures at_most_six { λ r. ⌜ lookedOf (r .answer) ≤ 6 ⌝ }
 {
     if is_allowed(bootcfg, flash, shadow, head) {
         return chosen_for(asked_by(bootcfg), flash, shadow, head);
     }
-    refusal()
+    Choice { answer: Answer::Refused, password: [0; 8] }
 }
