@@ -1,0 +1,76 @@
+-- The MMU rows (01, "MMU rows"; 000, Table 16-2).
+use Prim.Native.Nat.{ℕ, _*_}
+use mathlib.Core.List.{List, [], _∷_}
+use mathlib.Core.Bool.{Bool, true, false, cond}
+use lib.ListN.{replicate}
+use Rattle.boot.specs.declared.Mode.{Mode}
+use Rattle.boot.specs.declared.Entered.{Entered}
+use Rattle.mmu.specs.declared.Header.{Header}
+use Rattle.mmu.specs.declared.Row.{Row}
+use Rattle.mmu.specs.declared.Mapping.{Mapping}
+
+-- "An accepted header with VLE 1 sets VLE on entries 1 to 3; with 0 it clears it; where no header was accepted it is clear."
+abbrev pub vleOf : Header → Bool
+vleOf Header.NotAccepted = false
+vleOf (Header.Accepted vle) = vle
+
+-- the attributes by the names that Table 16-2 prints
+abbrev pub cacheInhibited : Bool
+cacheInhibited = true
+
+abbrev pub cacheEnabled : Bool
+cacheEnabled = false
+
+abbrev pub isGuarded : Bool
+isGuarded = true
+
+abbrev pub notGuarded : Bool
+notGuarded = false
+
+-- "1 Mbyte" and "1 Kbyte"
+abbrev pub mbyte : ℕ
+mbyte = 1024 * 1024
+
+abbrev pub kbyte : ℕ
+kbyte = 1024
+
+-- a row; each is "Big Endian" and "Global PID"
+abbrev pub row : (logical physical size : ℕ) (inhibited guarded vle : Bool) → Row
+row logical physical size inhibited guarded vle =
+    record
+    { logical = logical
+    ; physical = physical
+    ; size = size
+    ; inhibited = inhibited
+    ; guarded = guarded
+    ; bigendian = true
+    ; global = true
+    ; vle = vle }
+
+-- Table 16-2, entries 0 to 4: peripheral bridge B and BAM, internal flash, EBI, internal SRAM, peripheral bridge A
+unfoldable pub internalRows : Bool → List Row
+internalRows vle =
+    row 0xFFF0_0000 0xFFF0_0000 (1 * mbyte) cacheInhibited isGuarded false
+    ∷ row 0x0000_0000 0x0000_0000 (16 * mbyte) cacheEnabled notGuarded vle
+    ∷ row 0x2000_0000 0x0000_0000 (16 * mbyte) cacheEnabled notGuarded vle
+    ∷ row 0x4000_0000 0x4000_0000 (256 * kbyte) cacheInhibited notGuarded vle
+    ∷ row 0xC3F0_0000 0xC3F0_0000 (1 * mbyte) cacheInhibited notGuarded false
+    ∷ []
+
+-- "number only"
+abbrev pub noRows : List Row
+noRows = replicate 5 (record { logical = 0; physical = 0; size = 0; inhibited = false; guarded = false; bigendian = false; global = false; vle = false })
+
+-- "serial boot mode is entered directly .., or .. indirectly from internal boot mode ..: the MMU is configured the same way as for internal
+-- boot mode"; from external: "the same way as for one of the external boot modes" (000, 16.3.2.3.1)
+abbrev pub hasExternalRows : Mode → Bool
+hasExternalRows Mode.Internal = false
+hasExternalRows Mode.External = true
+hasExternalRows (Mode.Serial Entered.Directly) = false
+hasExternalRows (Mode.Serial Entered.FromInternal) = false
+hasExternalRows (Mode.Serial Entered.FromExternal) = true
+
+-- "Asking for external boot rows gets number 11."
+unfoldable pub mapping : Mode → Header → Mapping
+mapping mode header =
+    cond (hasExternalRows mode) (record { number = 11; rows = noRows }) (record { number = 0; rows = internalRows (vleOf header) })
