@@ -1,0 +1,53 @@
+use Rattle.exports.specs.Calls.{choiceAnswer}
+use borrow.Author.Tests.{eq-eqb, ne-eqb}
+use lib.ListN.{length}
+use denote.Ref.{now}
+use borrow.Author.Needs.{needs}
+use Rattle.exports.proofs.boot_assist_choice.Statement.{statement}
+use Rattle.exports.proofs.boot_assist_choice.Tie as tie
+use Rattle.exports.proofs.boot_assist_choice.Reads as reads
+use Rattle.exports.proofs.boot_assist_choice.Lts as lts
+use Rattle.boot.proofs.choose.Reads as choose-reads
+use Rattle.exports.proofs.put_choice.Reads as put-choice-reads
+
+choose-requires : tie.Need-choose-requires
+choose-requires c κs = search needs
+
+put-choice-requires : tie.Need-put-choice-requires
+put-choice-requires c κs = search needs
+
+same-length : tie.Need-same-length
+same-length c = search needs
+
+same-length-2 : tie.Need-same-length-2
+same-length-2 c = search needs
+
+returns : tie.Need-returns
+unfolding choiceAnswer
+returns c = 
+    let a = c .before .before .before .before .before .before .before .before .before .before .before .before .before .before .before .args in
+    rw (eq-eqb (length (now (a .fields))) 8 (c .before .before .before .before .before .before .before .before .before .if1 .taken), eq-eqb (length (now (a .password))) 8 (c .before .before .before .before .before .before .before .before .if2 .taken), c .before .before .before .before .put-choice .ensures, c .before .before .before .before .before .choose .ensures .0)
+
+returns-2 : tie.Need-returns-2
+unfolding choiceAnswer
+returns-2 c = 
+    let a = c .before .before .before .before .before .before .before .args in
+    rw (eq-eqb (length (now (a .fields))) 8 (c .before .if1 .taken), ne-eqb (length (now (a .password))) 8 (c .if2 .left))
+
+returns-3 : tie.Need-returns-3
+unfolding choiceAnswer
+returns-3 c = 
+    let a = c .before .before .before .before .before .before .args in
+    rw (ne-eqb (length (now (a .fields))) 8 (c .if1 .left))
+
+pub boot-assist-choice-spec : {M : Type 1} → statement M
+boot-assist-choice-spec =
+    tie.close
+    (tie.spec
+    choose-requires
+    put-choice-requires
+    same-length
+    same-length-2
+    returns
+    returns-2
+    returns-3)

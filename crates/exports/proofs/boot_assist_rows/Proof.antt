@@ -1,0 +1,59 @@
+use Rattle.exports.specs.Calls.{rowsAnswer}
+use borrow.Author.Tests.{eq-eqb, ne-eqb}
+use lib.ListN.{length}
+use denote.Ref.{now}
+use borrow.Author.Needs.{needs}
+use Rattle.exports.proofs.boot_assist_rows.Statement.{statement}
+use Rattle.exports.proofs.boot_assist_rows.Tie as tie
+use Rattle.exports.proofs.boot_assist_rows.Reads as reads
+use Rattle.exports.proofs.boot_assist_rows.Lts as lts
+use Rattle.exports.proofs.header_of.Reads as header-of-reads
+use Rattle.exports.proofs.mode_of.Reads as mode-of-reads
+use Rattle.exports.proofs.put_mapping.Reads as put-mapping-reads
+use Rattle.mmu.proofs.rows.Reads as rows-reads
+
+mode-of-requires : tie.Need-mode-of-requires
+mode-of-requires c κs = search needs
+
+header-of-requires : tie.Need-header-of-requires
+header-of-requires c κs = search needs
+
+rows-requires : tie.Need-rows-requires
+rows-requires c κs = search needs
+
+put-mapping-requires : tie.Need-put-mapping-requires
+put-mapping-requires c κs = search needs
+
+same-length : tie.Need-same-length
+same-length c = search needs
+
+returns : tie.Need-returns
+unfolding rowsAnswer
+returns c = 
+    let n = length (now (c .before .before .before .before .before .before .before .before .before .before .args .rows)) in
+    rw (eq-eqb n 40 (c .before .before .before .before .before .before .before .before .if1 .taken), c .before .before .before .before .before .before .before .if2 .taken, c .before .before .put-mapping .ensures, c .before .before .before .rows .ensures, c .before .before .before .before .header-of .ensures, c .before .before .before .before .before .mode-of .ensures)
+
+returns-2 : tie.Need-returns-2
+unfolding rowsAnswer
+returns-2 c = 
+    let n = length (now (c .before .before .before .args .rows)) in
+    rw (eq-eqb n 40 (c .before .if1 .taken), c .if2 .left)
+
+returns-3 : tie.Need-returns-3
+unfolding rowsAnswer
+returns-3 c = 
+    let n = length (now (c .before .before .args .rows)) in
+    rw (ne-eqb n 40 (c .if1 .left))
+
+pub boot-assist-rows-spec : {M : Type 1} → statement M
+boot-assist-rows-spec =
+    tie.close
+    (tie.spec
+    mode-of-requires
+    header-of-requires
+    rows-requires
+    put-mapping-requires
+    same-length
+    returns
+    returns-2
+    returns-3)

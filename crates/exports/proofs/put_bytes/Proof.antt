@@ -1,0 +1,72 @@
+-- `exports::put_bytes` meets its contract: after i turns the first i are in place.
+use Prim.Native.Nat.{_+_, _≤_, _-_}
+use native.Mathlib.Omega.{arith}
+use borrow.Author.Needs.{needs}
+use mathlib.Core.Path.{_≡_}
+use lib.ListN.{length}
+use lib.Seq.{paste}
+use denote.Ref.{now}
+use Rattle.exports.proofs.Copy.{begun, turn, kept, done}
+use Rattle.exports.proofs.put_bytes.Statement.{statement}
+use Rattle.exports.proofs.put_bytes.Tie as tie
+use Rattle.exports.proofs.put_bytes.Reads as reads
+use Rattle.exports.proofs.put_bytes.Lts as lts
+
+abbrev Inv-loop : tie.InvT-loop
+Inv-loop out₀ at bytes i₀ out i = (i ≤ 8) × (out ≡ paste out₀ at bytes i) × (length bytes ≡ 8)
+
+abbrev μ-loop : tie.MeasureT-loop
+μ-loop out₀ at bytes i₀ out i = 8 - i
+
+loop-holds : tie.Need-loop-holds Inv-loop μ-loop
+loop-holds c =
+    let eight : length (c .args .t3) ≡ 8 = search needs in
+    (search needs, begun (now (c .args .out)) (c .args .at) (c .args .t3) (c .pre) eight, eight)
+
+array-read-out : tie.Need-array-read-out Inv-loop μ-loop
+array-read-out c = omega arith
+
+add-out : tie.Need-add-out Inv-loop μ-loop
+add-out c = omega arith
+
+slice-write-out : tie.Need-slice-write-out Inv-loop μ-loop
+slice-write-out c =
+    let l = c .before .loop in
+    omega (arith, kept (now (c .before .before .args .out)) (c .before .before .args .at) (c .before .before .args .t3) (c .before .before .pre) (l .inv .2) (l .out) (l .i) (l .inv .1) (l .inv .0))
+
+add-i : tie.Need-add-i Inv-loop μ-loop
+add-i c = omega arith
+
+loop-less : tie.Need-loop-less Inv-loop μ-loop
+loop-less c = omega arith
+
+loop-again : tie.Need-loop-again Inv-loop μ-loop
+loop-again c =
+    let l = c .before .loop in
+    (omega arith, turn (now (c .before .before .args .out)) (c .before .before .args .at) (c .before .before .args .t3) (c .before .before .pre) (l .inv .2) (l .out) (l .i) (l .inv .1) (c .loop-test .taken), l .inv .2)
+
+same-length : tie.Need-same-length Inv-loop μ-loop
+same-length c =
+    let l = c .before .loop in
+    kept (now (c .before .before .args .out)) (c .before .before .args .at) (c .before .before .args .t3) (c .before .before .pre) (l .inv .2) (l .out) (l .i) (l .inv .1) (l .inv .0)
+
+returns : tie.Need-returns Inv-loop μ-loop
+returns c =
+    let l = c .before .loop in
+    done (now (c .before .before .args .out)) (c .before .before .args .at) (c .before .before .args .t3) (c .before .before .pre) (l .inv .2) (l .out) (l .i) (l .inv .1) (l .inv .0) (c .loop-test .left)
+
+pub put-bytes-spec : {M : Type 1} → statement M
+put-bytes-spec =
+    tie.close
+    (tie.spec
+    Inv-loop
+    μ-loop
+    loop-holds
+    array-read-out
+    add-out
+    slice-write-out
+    add-i
+    loop-less
+    loop-again
+    same-length
+    returns)

@@ -1,0 +1,81 @@
+-- `exports::put_rows` meets its contract: after i turns the numbers of the first i rows are in place.
+use Prim.Native.Nat.{_+_, _*_, _≤_, _-_}
+use native.Mathlib.Omega.{arith}
+use borrow.Author.Needs.{needs}
+use mathlib.Core.Path.{_≡_, refl}
+use mathlib.Core.List.{_++_}
+use lib.ListN.{length, take, drop}
+use denote.Ref.{now}
+use Rattle.exports.specs.Numbers.{rowsNumbers}
+use Rattle.exports.proofs.Rows.{turn, kept, done}
+use Rattle.exports.proofs.put_rows.Statement.{statement}
+use Rattle.exports.proofs.put_rows.Tie as tie
+use Rattle.exports.proofs.put_rows.Reads as reads
+use Rattle.exports.proofs.put_rows.Lts as lts
+use Rattle.exports.proofs.put_numbers.Reads as put-numbers-reads
+use Rattle.exports.proofs.row_numbers.Reads as row-numbers-reads
+
+abbrev Inv-loop : tie.InvT-loop
+Inv-loop out₀ rows i₀ out i = (i ≤ 5) × (out ≡ rowsNumbers (take i rows) ++ drop (8 * i) out₀) × (length rows ≡ 5)
+
+abbrev μ-loop : tie.MeasureT-loop
+μ-loop out₀ rows i₀ out i = 5 - i
+
+loop-holds : tie.Need-loop-holds Inv-loop μ-loop
+loop-holds c = (search needs, refl, search needs)
+
+mul-row : tie.Need-mul-row Inv-loop μ-loop
+mul-row c = omega arith
+
+array-copy-out-row : tie.Need-array-copy-out-row Inv-loop μ-loop
+array-copy-out-row c = omega arith
+
+mul-put-numbers : tie.Need-mul-put-numbers Inv-loop μ-loop
+mul-put-numbers c = omega arith
+
+row-numbers-requires : tie.Need-row-numbers-requires Inv-loop μ-loop
+row-numbers-requires c κs = search needs
+
+put-numbers-requires : tie.Need-put-numbers-requires Inv-loop μ-loop
+put-numbers-requires c κs =
+    let l = c .before .before .before .before .loop in
+    omega (arith, kept (now (c .before .before .before .before .before .before .args .out)) (c .before .before .before .before .before .before .args .t2) (c .before .before .before .before .loop .i) (c .before .before .before .before .loop .inv .2) (l .out) (l .inv .1) (l .inv .0) (c .before .before .before .before .before .before .pre), c .before .before .before .before .before .before .pre)
+
+add-i : tie.Need-add-i Inv-loop μ-loop
+add-i c = omega arith
+
+loop-less : tie.Need-loop-less Inv-loop μ-loop
+loop-less c = omega arith
+
+loop-again : tie.Need-loop-again Inv-loop μ-loop
+loop-again c =
+    let l = c .before .before .before .before .before .before .before .loop in
+    (omega arith, rw (c .before .before .put-numbers .ensures, c .before .before .before .row-numbers .ensures) (turn (now (c .before .before .before .before .before .before .before .before .before .args .out)) (c .before .before .before .before .before .before .before .before .before .args .t2) (c .before .before .before .before .before .before .before .loop .i) (c .before .before .before .before .before .before .before .loop .inv .2) _ (l .out) (l .inv .1) (c .before .before .before .before .before .before .loop-test .taken)), l .inv .2)
+
+same-length : tie.Need-same-length Inv-loop μ-loop
+same-length c =
+    let l = c .before .loop in
+    kept (now (c .before .before .before .args .out)) (c .before .before .before .args .t2) (c .before .loop .i) (c .before .loop .inv .2) (l .out) (l .inv .1) (l .inv .0) (c .before .before .before .pre)
+
+returns : tie.Need-returns Inv-loop μ-loop
+returns c =
+    let l = c .before .loop in
+    done (now (c .before .before .before .args .out)) (c .before .before .before .args .t2) (c .before .loop .i) (c .before .loop .inv .2) (l .out) (l .inv .1) (c .loop-test .left) (c .before .before .before .pre)
+
+pub put-rows-spec : {M : Type 1} → statement M
+put-rows-spec =
+    tie.close
+    (tie.spec
+    Inv-loop
+    μ-loop
+    loop-holds
+    mul-row
+    array-copy-out-row
+    mul-put-numbers
+    row-numbers-requires
+    put-numbers-requires
+    add-i
+    loop-less
+    loop-again
+    same-length
+    returns)

@@ -1,0 +1,186 @@
+// The C interface (include/boot_assist.h): the boot choice and the MMU rows on numbers and lent outputs.
+ghost use mathlib.Core.Path.{_≡_};
+ghost use Prim.Native.Nat.{_+_, _≤_};
+ghost use lib.ListN.{length};
+ghost use lib.Seq.{paste};
+ghost use Rattle.exports.specs.Numbers.{bit, modeNumber, modeOf, headerOf, bootNumbers, rowNumbers, rowsNumbers};
+ghost use Rattle.exports.specs.Calls.{choiceCall, choiceLeaves, choiceAnswer, rowsCall, rowsLeave, rowsAnswer};
+use boot::Answer;
+use boot::Boot;
+use boot::Choice;
+use boot::Entered;
+use boot::Mode;
+use mmu::Header;
+use mmu::Mapping;
+use mmu::Row;
+
+// A flag as 0 or 1.
+fn bit_of(flag: bool) -> u32
+    ensures { λ r. ⌜ r ≡ bit flag ⌝ }
+{
+    if flag {
+        return 1;
+    }
+    0
+}
+
+// The number of a way to boot.
+fn number_of(mode: Mode) -> u32
+    ensures { λ r. ⌜ r ≡ modeNumber mode ⌝ }
+{
+    match mode {
+        Mode::Internal => 0,
+        Mode::External => 1,
+        Mode::Serial(entered) => match entered {
+            Entered::Directly => 2,
+            Entered::FromInternal => 3,
+            Entered::FromExternal => 4,
+        },
+    }
+}
+
+// The way to boot of a number.
+fn mode_of(number: u8) -> Mode
+    ensures { λ r. ⌜ r ≡ modeOf number ⌝ }
+{
+    match number {
+        0 => Mode::Internal,
+        1 => Mode::External,
+        2 => Mode::Serial(Entered::Directly),
+        3 => Mode::Serial(Entered::FromInternal),
+        _ => Mode::Serial(Entered::FromExternal),
+    }
+}
+
+// The header of a number.
+fn header_of(number: u8) -> Header
+    ensures { λ r. ⌜ r ≡ headerOf number ⌝ }
+{
+    if number == 0 {
+        return Header::NotAccepted;
+    }
+    Header::Accepted(number == 2)
+}
+
+// The numbers of a choice.
+fn boot_numbers(boot: Boot) -> [u32; 8]
+    ensures { λ r. ⌜ r ≡ bootNumbers boot ⌝ }
+{
+    let mode = boot.mode;
+    [
+        number_of(mode),
+        boot.place,
+        boot.looked as u32,
+        boot.jump,
+        bit_of(boot.watchdog),
+        bit_of(boot.bus16),
+        bit_of(boot.flash),
+        bit_of(boot.nexus),
+    ]
+}
+
+// The numbers of a row.
+fn row_numbers(row: Row) -> [u32; 8]
+    ensures { λ r. ⌜ r ≡ rowNumbers row ⌝ }
+{
+    [
+        row.logical,
+        row.physical,
+        row.size,
+        bit_of(row.inhibited),
+        bit_of(row.guarded),
+        bit_of(row.bigendian),
+        bit_of(row.global),
+        bit_of(row.vle),
+    ]
+}
+
+// Writes eight numbers from a place on.
+fn put_numbers(out: &mut [u32], at: usize, numbers: [u32; 8])
+    requires { ⌜ at + 8 ≤ length (now out) ⌝ }
+    ensures { λ _. ⌜ now (out .exit) ≡ paste (now (out .entry)) at numbers 8 ⌝ }
+{
+    for i in 0..8 {
+        out[at + i] = numbers[i];
+    }
+}
+
+// Writes eight bytes from a place on.
+fn put_bytes(out: &mut [u8], at: usize, bytes: [u8; 8])
+    requires { ⌜ at + 8 ≤ length (now out) ⌝ }
+    ensures { λ _. ⌜ now (out .exit) ≡ paste (now (out .entry)) at bytes 8 ⌝ }
+{
+    for i in 0..8 {
+        out[at + i] = bytes[i];
+    }
+}
+
+// Writes the numbers of five rows.
+fn put_rows(out: &mut [u32], rows: [Row; 5])
+    requires { ⌜ length (now out) ≡ 40 ⌝ }
+    ensures { λ _. ⌜ now (out .exit) ≡ rowsNumbers rows ⌝ }
+{
+    for i in 0..5 {
+        let row = rows[i];
+        put_numbers(out, 8 * i, row_numbers(row));
+    }
+}
+
+// Writes a choice, where it is not refused, and returns its number.
+fn put_choice(fields: &mut [u32], password: &mut [u8], choice: Choice) -> u8
+    requires { ⌜ (length (now fields) ≡ 8) × (length (now password) ≡ 8) ⌝ }
+    ensures { λ r. ⌜ choiceCall r (now (fields .exit)) (now (password .exit)) ≡ choiceLeaves choice (now (fields .entry)) (now (password .entry)) ⌝ }
+{
+    let answer = choice.answer;
+    let Answer::Boots(boot) = answer else {
+        return 9;
+    };
+    let selected = choice.password;
+    put_numbers(fields, 0, boot_numbers(boot));
+    put_bytes(password, 0, selected);
+    0
+}
+
+// The boot choice: writes its 8 numbers and the 8 bytes of the password selected, and returns number 0; or returns number 9.
+#[no_mangle]
+pub extern "C" fn boot_assist_choice(bootcfg: u8, flash: &[u8], shadow: &[u8], head: &[u8], fields: &mut [u32], password: &mut [u8]) -> u8
+    ensures {
+        λ r. ⌜
+            choiceCall r (now (fields .exit)) (now (password .exit))
+            ≡ choiceAnswer bootcfg (now (flash .entry)) (now (shadow .entry)) (now (head .entry)) (now (fields .entry)) (now (password .entry))
+        ⌝
+    }
+{
+    if fields.len() == 8 {
+        if password.len() == 8 {
+            return put_choice(fields, password, boot::choose(bootcfg, flash, shadow, head));
+        }
+    }
+    9
+}
+
+// Writes a mapping, where it is not refused, and returns its number.
+fn put_mapping(rows: &mut [u32], mapping: Mapping) -> u8
+    requires { ⌜ length (now rows) ≡ 40 ⌝ }
+    ensures { λ r. ⌜ rowsCall r (now (rows .exit)) ≡ rowsLeave mapping (now (rows .entry)) ⌝ }
+{
+    let number = mapping.number;
+    if number == 0 {
+        let found = mapping.rows;
+        put_rows(rows, found);
+    }
+    number
+}
+
+// The MMU rows: writes 5 rows of 8 numbers and returns number 0; or returns number 11 or 9.
+#[no_mangle]
+pub extern "C" fn boot_assist_rows(mode: u8, header: u8, rows: &mut [u32]) -> u8
+    ensures { λ r. ⌜ rowsCall r (now (rows .exit)) ≡ rowsAnswer mode header (now (rows .entry)) ⌝ }
+{
+    if rows.len() == 40 {
+        if (mode <= 4) & (header <= 2) {
+            return put_mapping(rows, mmu::rows(mode_of(mode), header_of(header)));
+        }
+    }
+    9
+}
