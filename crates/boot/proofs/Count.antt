@@ -18,9 +18,9 @@ Few : Choice → Type 0
 Few c = lookedOf (c .answer) ≤ 6
 
 settled-few
-  : (mode : Mode) (entered : Entered) (memory : List ℕ) (look : Look) (row : Row)
-  → look .looked ≤ 6
-  → Few (settled mode entered memory look row)
+    : (mode : Mode) (entered : Entered) (memory : List ℕ) (look : Look) (row : Row)
+    → look .looked ≤ 6
+    → Few (settled mode entered memory look row)
 unfolding settled Few
 settled-few mode entered memory look row h = either Few (look .found) h h
 
@@ -37,8 +37,8 @@ at-most-six bootcfg flash shadow head =
 
 -- the claim of `choose`, from its equation
 pub counted
-  : (bootcfg : ℕ) (flash shadow head : List ℕ) {r : Choice}
-  → r ≡ choice bootcfg flash shadow head
-  → (r ≡ choice bootcfg flash shadow head) × (lookedOf (r .answer) ≤ 6)
+    : (bootcfg : ℕ) (flash shadow head : List ℕ) {r : Choice}
+    → r ≡ choice bootcfg flash shadow head
+    → (r ≡ choice bootcfg flash shadow head) × (lookedOf (r .answer) ≤ 6)
 unfolding Few
 counted bootcfg flash shadow head e = (e, rw e (at-most-six bootcfg flash shadow head))

@@ -12,16 +12,16 @@ use Rattle.boot.specs.declared.Look.{Look}
 
 module _ (memory places : List ℕ) (i : ℕ) where
   pub walk-found
-    : i < length places
-    → good memory (getD places i 0) ≡ true
-    → walk memory i (drop i places) ≡ record { found = true; place = getD places i 0; looked = i + 1 }
+      : i < length places
+      → good memory (getD places i 0) ≡ true
+      → walk memory i (drop i places) ≡ record { found = true; place = getD places i 0; looked = i + 1 }
   unfolding walk
   walk-found h e = rw (drop-cons places i 0, e)
 
   pub walk-on
-    : i < length places
-    → good memory (getD places i 0) ≡ false
-    → walk memory i (drop i places) ≡ walk memory (i + 1) (drop (i + 1) places)
+      : i < length places
+      → good memory (getD places i 0) ≡ false
+      → walk memory i (drop i places) ≡ walk memory (i + 1) (drop (i + 1) places)
   unfolding walk
   walk-on h e = rw (drop-cons places i 0, e, add-one)
 

@@ -29,36 +29,40 @@ refused = record { answer = Answer.Refused; password = replicate 8 0 }
 -- from a good place: "the answer carries that place"; "The jump address is the word at place + 4."
 abbrev pub boots : Mode → List ℕ → Look → Row → Choice
 boots mode memory look row =
-    record
-    { answer =
-        Answer.Boots
-        (record
-        { mode = mode
-        ; place = look .place
-        ; looked = look .looked
-        ; jump = wordAt memory (look .place + 4)
-        ; watchdog = watchdogAt memory (look .place)
-        ; bus16 = bus16At memory (look .place)
-        ; flash = row .flash
-        ; nexus = row .nexus })
-    ; password = row .password }
+    record {
+      answer =
+          Answer.Boots
+          (record {
+            mode = mode;
+            place = look .place;
+            looked = look .looked;
+            jump = wordAt memory (look .place + 4);
+            watchdog = watchdogAt memory (look .place);
+            bus16 = bus16At memory (look .place);
+            flash = row .flash;
+            nexus = row .nexus;
+          });
+      password = row .password;
+    }
 
 -- "In a serial choice the place, jump address and both flags are 0."; "A fallback to serial keeps its row's flash, Nexus and password."
 abbrev pub serial : Entered → ℕ → Row → Choice
 serial entered looked row =
-    record
-    { answer =
-        Answer.Boots
-        (record
-        { mode = Mode.Serial entered
-        ; place = 0
-        ; looked = looked
-        ; jump = 0
-        ; watchdog = false
-        ; bus16 = false
-        ; flash = row .flash
-        ; nexus = row .nexus })
-    ; password = row .password }
+    record {
+      answer =
+          Answer.Boots
+          (record {
+            mode = Mode.Serial entered;
+            place = 0;
+            looked = looked;
+            jump = 0;
+            watchdog = false;
+            bus16 = false;
+            flash = row .flash;
+            nexus = row .nexus;
+          });
+      password = row .password;
+    }
 
 -- Internal: "With no good place: serial."; External: "bad means serial."
 unfoldable pub settled : Mode → Entered → List ℕ → Look → Row → Choice

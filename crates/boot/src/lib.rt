@@ -84,11 +84,19 @@ fn first_good(flash: &[u8]) -> Look
     let mut i: u8 = 0;
     let look = loop {
         if 6 <= i {
-            break Look { found: false, place: 0, looked: i };
+            break Look {
+                found: false,
+                place: 0,
+                looked: i,
+            };
         }
         let place = PLACES[i as usize];
         if is_good(flash, place) {
-            break Look { found: true, place: place, looked: i + 1 };
+            break Look {
+                found: true,
+                place: place,
+                looked: i + 1,
+            };
         }
         i = i + 1;
     };
@@ -127,21 +135,45 @@ fn row_of(asked: Asked, is_55aa: bool, shadow: &[u8]) -> Row
     match asked {
         Asked::Internal => {
             if is_55aa {
-                return Row { flash: true, nexus: true, password: PUBLIC };
+                return Row {
+                    flash: true,
+                    nexus: true,
+                    password: PUBLIC,
+                };
             }
-            Row { flash: true, nexus: false, password: secret }
+            Row {
+                flash: true,
+                nexus: false,
+                password: secret,
+            }
         }
         Asked::Serial => {
             if is_55aa {
-                return Row { flash: true, nexus: false, password: secret };
+                return Row {
+                    flash: true,
+                    nexus: false,
+                    password: secret,
+                };
             }
-            Row { flash: false, nexus: true, password: PUBLIC }
+            Row {
+                flash: false,
+                nexus: true,
+                password: PUBLIC,
+            }
         }
         Asked::External => {
             if is_55aa {
-                return Row { flash: true, nexus: true, password: PUBLIC };
+                return Row {
+                    flash: true,
+                    nexus: true,
+                    password: PUBLIC,
+                };
             }
-            Row { flash: false, nexus: true, password: PUBLIC }
+            Row {
+                flash: false,
+                nexus: true,
+                password: PUBLIC,
+            }
         }
     }
 }
@@ -168,7 +200,10 @@ fn serial_boot(entered: Entered, looked: u8, row: Row) -> Choice
         nexus: row.nexus,
     };
     let password = row.password;
-    Choice { answer: Answer::Boots(boot), password: password }
+    Choice {
+        answer: Answer::Boots(boot),
+        password: password,
+    }
 }
 
 // The choice of a boot from a good place.
@@ -188,7 +223,10 @@ fn boot_from(mode: Mode, memory: &[u8], look: Look, row: Row) -> Choice
         nexus: row.nexus,
     };
     let password = row.password;
-    Choice { answer: Answer::Boots(boot), password: password }
+    Choice {
+        answer: Answer::Boots(boot),
+        password: password,
+    }
 }
 
 // The choice after a walk: a boot from the place found, or serial boot.
@@ -212,7 +250,11 @@ fn row_for(asked: Asked, shadow: &[u8]) -> Row
 fn look_at_head(head: &[u8]) -> Look
     ensures { λ r. ⌜ r ≡ walk (now (head .entry)) 0 headPlaces ⌝ }
 {
-    Look { found: is_good(head, 0), place: 0, looked: 1 }
+    Look {
+        found: is_good(head, 0),
+        place: 0,
+        looked: 1,
+    }
 }
 
 // How the head boots, once the sizes are allowed.
@@ -221,9 +263,21 @@ fn chosen_for(asked: Asked, flash: &[u8], shadow: &[u8], head: &[u8]) -> Choice
 {
     let row = row_for(asked, shadow);
     match asked {
-        Asked::Internal => settle(Mode::Internal, Entered::FromInternal, flash, first_good(flash), row),
+        Asked::Internal => settle(
+            Mode::Internal,
+            Entered::FromInternal,
+            flash,
+            first_good(flash),
+            row,
+        ),
         Asked::Serial => serial_boot(Entered::Directly, 0, row),
-        Asked::External => settle(Mode::External, Entered::FromExternal, head, look_at_head(head), row),
+        Asked::External => settle(
+            Mode::External,
+            Entered::FromExternal,
+            head,
+            look_at_head(head),
+            row,
+        ),
     }
 }
 
@@ -235,5 +289,8 @@ pub fn choose(bootcfg: u8, flash: &[u8], shadow: &[u8], head: &[u8]) -> Choice
     if is_allowed(bootcfg, flash, shadow, head) {
         return chosen_for(asked_by(bootcfg), flash, shadow, head);
     }
-    Choice { answer: Answer::Refused, password: [0; 8] }
+    Choice {
+        answer: Answer::Refused,
+        password: [0; 8],
+    }
 }

@@ -37,10 +37,10 @@ module _ (out₀ : List ℕ) (rows : List Row) (i : ℕ) (five : length rows ≡
       rw (add-one, take-suc rows i d n, rows-append)
 
   pub turn
-    : (d : Row) (out : List ℕ)
-    → Written out
-    → i < 5
-    → paste out (8 * i) (rowNumbers (getD rows i d)) 8 ≡ rowsNumbers (take (i + 1) rows) ++ drop (8 * (i + 1)) out₀
+      : (d : Row) (out : List ℕ)
+      → Written out
+      → i < 5
+      → paste out (8 * i) (rowNumbers (getD rows i d)) 8 ≡ rowsNumbers (take (i + 1) rows) ++ drop (8 * (i + 1)) out₀
   turn d out e h =
       let n : 8 * i + 8 ≡ 8 * (i + 1) = omega arith in
       ap (λ (l : List ℕ). paste l (8 * i) (rowNumbers (getD rows i d)) 8) e

@@ -143,13 +143,18 @@ fn put_choice(fields: &mut [u32], password: &mut [u8], choice: Choice) -> u8
 
 // The boot choice: writes its 8 numbers and the 8 bytes of the password selected, and returns number 0; or returns number 9.
 #[no_mangle]
-pub extern "C" fn boot_assist_choice(bootcfg: u8, flash: &[u8], shadow: &[u8], head: &[u8], fields: &mut [u32], password: &mut [u8]) -> u8
-    ensures {
-        λ r. ⌜
-            choiceCall r (now (fields .exit)) (now (password .exit))
-            ≡ choiceAnswer bootcfg (now (flash .entry)) (now (shadow .entry)) (now (head .entry)) (now (fields .entry)) (now (password .entry))
-        ⌝
-    }
+pub extern "C" fn boot_assist_choice(
+    bootcfg: u8,
+    flash: &[u8],
+    shadow: &[u8],
+    head: &[u8],
+    fields: &mut [u32],
+    password: &mut [u8],
+) -> u8
+    ensures { λ r. ⌜
+        choiceCall r (now (fields .exit)) (now (password .exit))
+        ≡ choiceAnswer bootcfg (now (flash .entry)) (now (shadow .entry)) (now (head .entry)) (now (fields .entry)) (now (password .entry))
+        ⌝ }
 {
     if fields.len() == 8 {
         if password.len() == 8 {

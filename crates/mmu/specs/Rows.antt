@@ -37,15 +37,16 @@ kbyte = 1024
 -- a row; each is "Big Endian" and "Global PID"
 abbrev pub row : (logical physical size : ℕ) (inhibited guarded vle : Bool) → Row
 row logical physical size inhibited guarded vle =
-    record
-    { logical = logical
-    ; physical = physical
-    ; size = size
-    ; inhibited = inhibited
-    ; guarded = guarded
-    ; bigendian = true
-    ; global = true
-    ; vle = vle }
+    record {
+      logical = logical;
+      physical = physical;
+      size = size;
+      inhibited = inhibited;
+      guarded = guarded;
+      bigendian = true;
+      global = true;
+      vle = vle;
+    }
 
 -- Table 16-2, entries 0 to 4: peripheral bridge B and BAM, internal flash, EBI, internal SRAM, peripheral bridge A
 unfoldable pub internalRows : Bool → List Row

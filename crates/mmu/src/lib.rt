@@ -85,9 +85,24 @@ pub fn rows(mode: Mode, header: Header) -> Mapping
     ensures { λ r. ⌜ r ≡ mapping mode header ⌝ }
 {
     if is_external(mode) {
-        let none = Row { logical: 0, physical: 0, size: 0, inhibited: false, guarded: false, bigendian: false, global: false, vle: false };
-        return Mapping { number: 11, rows: [none; 5] };
+        let none = Row {
+            logical: 0,
+            physical: 0,
+            size: 0,
+            inhibited: false,
+            guarded: false,
+            bigendian: false,
+            global: false,
+            vle: false,
+        };
+        return Mapping {
+            number: 11,
+            rows: [none; 5],
+        };
     }
     let rows = internal_rows(vle_of(header));
-    Mapping { number: 0, rows: rows }
+    Mapping {
+        number: 0,
+        rows: rows,
+    }
 }

@@ -36,27 +36,29 @@ table =
     -- P10 "5A only at 0x1C000: 4 places"
     case (internal (with5A 0x1C000))
     (Answer.Boots
-    (record
-    { mode = Mode.Internal
-    ; place = 0x1C000
-    ; looked = 4
-    ; jump = 0
-    ; watchdog = false
-    ; bus16 = false
-    ; flash = true
-    ; nexus = false }))
+    (record {
+      mode = Mode.Internal;
+      place = 0x1C000;
+      looked = 4;
+      jump = 0;
+      watchdog = false;
+      bus16 = false;
+      flash = true;
+      nexus = false;
+    }))
     -- P11 "none: 6, serial"
     ∷ case (internal blank)
-      (Answer.Boots
-      (record
-      { mode = Mode.Serial Entered.FromInternal
-      ; place = 0
-      ; looked = 6
-      ; jump = 0
-      ; watchdog = false
-      ; bus16 = false
-      ; flash = true
-      ; nexus = false }))
+    (Answer.Boots
+    (record {
+      mode = Mode.Serial Entered.FromInternal;
+      place = 0;
+      looked = 6;
+      jump = 0;
+      watchdog = false;
+      bus16 = false;
+      flash = true;
+      nexus = false;
+    }))
     -- P12 "5A as first byte: not good"
     ∷ case (good (0x5A ∷ replicate 7 0) 0) false
     ∷ []

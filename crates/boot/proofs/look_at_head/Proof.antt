@@ -11,8 +11,8 @@ use Rattle.boot.proofs.look_at_head.Lts as lts
 use Rattle.boot.proofs.is_good.Reads as is-good-reads
 
 one
-  : (good : Bool)
-  → _≡_ {A = Look} (record { found = good; place = 0; looked = 1 })
+    : (good : Bool)
+    → _≡_ {A = Look} (record { found = good; place = 0; looked = 1 })
     (cond good (record { found = true; place = 0; looked = 1 }) (record { found = false; place = 0; looked = 1 }))
 one true = refl
 one false = refl

@@ -24,19 +24,19 @@ same-length-2 c = search needs
 
 returns : tie.Need-returns
 unfolding choiceAnswer
-returns c = 
+returns c =
     let a = c .before .before .before .before .before .before .before .before .before .before .before .before .before .before .before .args in
     rw (eq-eqb (length (now (a .fields))) 8 (c .before .before .before .before .before .before .before .before .before .if1 .taken), eq-eqb (length (now (a .password))) 8 (c .before .before .before .before .before .before .before .before .if2 .taken), c .before .before .before .before .put-choice .ensures, c .before .before .before .before .before .choose .ensures .0)
 
 returns-2 : tie.Need-returns-2
 unfolding choiceAnswer
-returns-2 c = 
+returns-2 c =
     let a = c .before .before .before .before .before .before .before .args in
     rw (eq-eqb (length (now (a .fields))) 8 (c .before .if1 .taken), ne-eqb (length (now (a .password))) 8 (c .if2 .left))
 
 returns-3 : tie.Need-returns-3
 unfolding choiceAnswer
-returns-3 c = 
+returns-3 c =
     let a = c .before .before .before .before .before .before .args in
     rw (ne-eqb (length (now (a .fields))) 8 (c .if1 .left))
 

@@ -29,19 +29,19 @@ same-length c = search needs
 
 returns : tie.Need-returns
 unfolding rowsAnswer
-returns c = 
+returns c =
     let n = length (now (c .before .before .before .before .before .before .before .before .before .before .args .rows)) in
     rw (eq-eqb n 40 (c .before .before .before .before .before .before .before .before .if1 .taken), c .before .before .before .before .before .before .before .if2 .taken, c .before .before .put-mapping .ensures, c .before .before .before .rows .ensures, c .before .before .before .before .header-of .ensures, c .before .before .before .before .before .mode-of .ensures)
 
 returns-2 : tie.Need-returns-2
 unfolding rowsAnswer
-returns-2 c = 
+returns-2 c =
     let n = length (now (c .before .before .before .args .rows)) in
     rw (eq-eqb n 40 (c .before .if1 .taken), c .if2 .left)
 
 returns-3 : tie.Need-returns-3
 unfolding rowsAnswer
-returns-3 c = 
+returns-3 c =
     let n = length (now (c .before .before .args .rows)) in
     rw (ne-eqb n 40 (c .if1 .left))
 

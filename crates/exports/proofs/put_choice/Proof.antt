@@ -38,7 +38,7 @@ same-length-2 : tie.Need-same-length-2
 same-length-2 c = search needs
 
 returns-2 : tie.Need-returns-2
-returns-2 c = 
+returns-2 c =
     let a = c .before .before .before .before .before .before .before .before .before .before .before .before .before .before .before .args in
     let selected : length (a .choice .password) ≡ 8 = search needs in
     rw (c .before .before .put-bytes .ensures, whole (now (a .password)) (a .choice .password) (c .before .before .before .before .before .before .before .before .before .before .before .before .before .before .before .pre .1) selected, c .before .before .before .before .before .before .put-numbers .ensures, c .before .before .before .before .before .before .before .boot-numbers .ensures, drop-of-length-le (now (a .fields)) {i = 8} (omega (arith, c .before .before .before .before .before .before .before .before .before .before .before .before .before .before .before .pre .0)), c .before .before .before .before .before .before .before .before .before .before .before .answer .given .1)
