@@ -14,7 +14,7 @@ pub fn byte(s: &[u8], at: usize) -> u8
 }
 
 // The number that two bytes are, the higher first.
-pub fn joined(high: u8, low: u8) -> u16
+fn joined(high: u8, low: u8) -> u16
     ensures { λ r. ⌜ r ≡ high * 256 + low ⌝ }
 {
     (high as u16) * 256 + (low as u16)

@@ -1,21 +1,17 @@
-use Rattle.boot.specs.Table.{asked}
+-- `boot::asked_by` meets its contract: each test picks the definition's case.
 use borrow.Author.Tests.{eq-eqb, ne-eqb}
+use Rattle.boot.specs.Table.{asked}
 use Rattle.boot.proofs.asked_by.Statement.{statement}
 use Rattle.boot.proofs.asked_by.Tie as tie
-use Rattle.boot.proofs.asked_by.Reads as reads
-use Rattle.boot.proofs.asked_by.Lts as lts
 
--- src/lib.rt:94:9
 returns : tie.Need-returns
 unfolding asked
 returns c = rw (eq-eqb (c .before .args .bootcfg) 0 (c .if1 .taken))
 
--- src/lib.rt:97:9
 returns-2 : tie.Need-returns-2
 unfolding asked
 returns-2 c = rw (ne-eqb (c .before .before .args .bootcfg) 0 (c .before .if1 .left), eq-eqb (c .before .before .args .bootcfg) 1 (c .if2 .taken))
 
--- src/lib.rt:90:1
 returns-3 : tie.Need-returns-3
 unfolding asked
 returns-3 c = rw (ne-eqb (c .before .before .args .bootcfg) 0 (c .before .if1 .left), ne-eqb (c .before .before .args .bootcfg) 1 (c .if2 .left))

@@ -1,28 +1,20 @@
+-- `boot::choose` meets its contract: the sizes allowed, and not.
 use denote.Ref.{now}
+use borrow.Author.Needs.{needs}
 use Rattle.boot.specs.Choosing.{choice}
 use Rattle.boot.proofs.Count.{counted}
-use borrow.Author.Needs.{needs}
 use Rattle.boot.proofs.choose.Statement.{statement}
 use Rattle.boot.proofs.choose.Tie as tie
-use Rattle.boot.proofs.choose.Reads as reads
-use Rattle.boot.proofs.choose.Lts as lts
-use Rattle.boot.proofs.asked_by.Reads as asked-by-reads
-use Rattle.boot.proofs.chosen_for.Reads as chosen-for-reads
-use Rattle.boot.proofs.is_allowed.Reads as is-allowed-reads
 
--- src/lib.rt:235:8
 is-allowed-requires : tie.Need-is-allowed-requires
 is-allowed-requires c κs = search needs
 
--- src/lib.rt:236:27
 asked-by-requires : tie.Need-asked-by-requires
 asked-by-requires c κs = search needs
 
--- src/lib.rt:236:9
 chosen-for-requires : tie.Need-chosen-for-requires
 chosen-for-requires c κs = search needs
 
--- src/lib.rt:236:9
 returns : tie.Need-returns
 unfolding choice
 returns c =
@@ -30,7 +22,6 @@ returns c =
     counted (a .bootcfg) (now (a .flash)) (now (a .shadow)) (now (a .head))
     (rw (c .chosen-for .ensures, c .before .asked-by .ensures, ← c .before .before .before .is-allowed .ensures, c .before .before .if1 .taken))
 
--- src/lib.rt:231:1
 returns-2 : tie.Need-returns-2
 unfolding choice
 returns-2 c =

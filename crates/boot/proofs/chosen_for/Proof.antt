@@ -1,62 +1,44 @@
-use Rattle.boot.specs.Choosing.{chosen}
+-- `boot::chosen_for` meets its contract: each arm is the definition's case.
 use borrow.Author.Needs.{needs}
+use Rattle.boot.specs.Choosing.{chosen}
 use Rattle.boot.proofs.chosen_for.Statement.{statement}
 use Rattle.boot.proofs.chosen_for.Tie as tie
-use Rattle.boot.proofs.chosen_for.Reads as reads
-use Rattle.boot.proofs.chosen_for.Lts as lts
-use Rattle.boot.proofs.first_good.Reads as first-good-reads
-use Rattle.boot.proofs.look_at_head.Reads as look-at-head-reads
-use Rattle.boot.proofs.row_for.Reads as row-for-reads
-use Rattle.boot.proofs.serial_boot.Reads as serial-boot-reads
-use Rattle.boot.proofs.settle.Reads as settle-reads
 
--- src/lib.rt:234:9
 row-for-requires : tie.Need-row-for-requires
 row-for-requires c κs = search needs
 
--- src/lib.rt:236:35
 enum-told : tie.Need-enum-told
 enum-told c = search needs
 
--- src/lib.rt:236:81
 first-good-requires : tie.Need-first-good-requires
 first-good-requires c κs = search needs
 
--- src/lib.rt:236:28
 settle-requires : tie.Need-settle-requires
 settle-requires c κs = search needs
 
--- src/lib.rt:237:38
 enum-told-2 : tie.Need-enum-told-2
 enum-told-2 c = search needs
 
--- src/lib.rt:237:26
 serial-boot-requires : tie.Need-serial-boot-requires
 serial-boot-requires c κs = search needs
 
--- src/lib.rt:238:35
 enum-told-3 : tie.Need-enum-told-3
 enum-told-3 c = search needs
 
--- src/lib.rt:238:80
 look-at-head-requires : tie.Need-look-at-head-requires
 look-at-head-requires c κs = search needs
 
--- src/lib.rt:238:28
 settle-requires-2 : tie.Need-settle-requires-2
 settle-requires-2 c κs = search needs
 
--- src/lib.rt:231:1
 returns : tie.Need-returns
 unfolding chosen
 returns c = rw (c .settle .ensures, c .before .first-good .ensures, c .before .before .before .before .row-for .ensures, c .before .before .enum-told .given .1)
 
--- src/lib.rt:231:1
 returns-2 : tie.Need-returns-2
 unfolding chosen
 returns-2 c = rw (c .serial-boot .ensures, c .before .before .before .row-for .ensures, c .before .enum-told2 .given .1)
 
--- src/lib.rt:231:1
 returns-3 : tie.Need-returns-3
 unfolding chosen
 returns-3 c = rw (c .settle2 .ensures, c .before .look-at-head .ensures, c .before .before .before .before .row-for .ensures, c .before .before .enum-told3 .given .1)

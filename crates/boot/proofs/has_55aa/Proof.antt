@@ -1,46 +1,35 @@
-use Rattle.boot.specs.Table.{control55AA}
+-- `boot::has_55aa` meets its contract: each arm is the definition's case.
 use borrow.Author.Needs.{needs}
+use Rattle.boot.specs.Table.{control55AA}
 use Rattle.boot.proofs.has_55aa.Statement.{statement}
 use Rattle.boot.proofs.has_55aa.Tie as tie
-use Rattle.boot.proofs.has_55aa.Reads as reads
-use Rattle.boot.proofs.has_55aa.Lts as lts
-use Rattle.octets.proofs.half.Reads as half-reads
 
--- src/lib.rt:107:28
 enum-told : tie.Need-enum-told
 enum-told c = search needs
 
--- src/lib.rt:107:28
 half-requires : tie.Need-half-requires
 half-requires c κs = search needs
 
--- src/lib.rt:108:26
 enum-told-2 : tie.Need-enum-told-2
 enum-told-2 c = search needs
 
--- src/lib.rt:108:26
 half-requires-2 : tie.Need-half-requires-2
 half-requires-2 c κs = search needs
 
--- src/lib.rt:109:28
 enum-told-3 : tie.Need-enum-told-3
 enum-told-3 c = search needs
 
--- src/lib.rt:109:28
 half-requires-3 : tie.Need-half-requires-3
 half-requires-3 c κs = search needs
 
--- src/lib.rt:103:1
 returns : tie.Need-returns
 unfolding control55AA
 returns c = rw (c .half .ensures, c .before .enum-told .given .1)
 
--- src/lib.rt:103:1
 returns-2 : tie.Need-returns-2
 unfolding control55AA
 returns-2 c = rw (c .half2 .ensures, c .before .enum-told2 .given .1)
 
--- src/lib.rt:103:1
 returns-3 : tie.Need-returns-3
 unfolding control55AA
 returns-3 c = rw (c .half3 .ensures, c .before .enum-told3 .given .1)

@@ -1,14 +1,12 @@
-use mathlib.Core.Path.{_≡_, refl}
+-- `boot::look_at_head` meets its contract: the walk over one place.
 use mathlib.Core.Bool.{Bool, true, false, cond}
+use mathlib.Core.Path.{_≡_, refl}
 use denote.Ref.{now}
-use Rattle.boot.specs.declared.Look.{Look}
-use Rattle.boot.specs.Places.{good, walk, headPlaces}
 use borrow.Author.Needs.{needs}
+use Rattle.boot.specs.Places.{good, walk, headPlaces}
+use Rattle.boot.specs.declared.Look.{Look}
 use Rattle.boot.proofs.look_at_head.Statement.{statement}
 use Rattle.boot.proofs.look_at_head.Tie as tie
-use Rattle.boot.proofs.look_at_head.Reads as reads
-use Rattle.boot.proofs.look_at_head.Lts as lts
-use Rattle.boot.proofs.is_good.Reads as is-good-reads
 
 one
     : (good : Bool)
@@ -17,11 +15,9 @@ one
 one true = refl
 one false = refl
 
--- src/lib.rt:227:19
 is-good-requires : tie.Need-is-good-requires
 is-good-requires c κs = search needs
 
--- src/lib.rt:224:1
 returns : tie.Need-returns
 unfolding walk headPlaces
 returns c = rw (c .is-good .ensures) (one (good (now (c .before .before .args .head)) 0))

@@ -1,14 +1,11 @@
-use Rattle.exports.specs.Calls.{choiceAnswer}
-use borrow.Author.Tests.{eq-eqb, ne-eqb}
+-- `exports::boot_assist_choice` meets its contract: the outputs' lengths, then the choice.
 use lib.ListN.{length}
 use denote.Ref.{now}
 use borrow.Author.Needs.{needs}
+use borrow.Author.Tests.{eq-eqb, ne-eqb}
+use Rattle.exports.specs.Calls.{choiceAnswer}
 use Rattle.exports.proofs.boot_assist_choice.Statement.{statement}
 use Rattle.exports.proofs.boot_assist_choice.Tie as tie
-use Rattle.exports.proofs.boot_assist_choice.Reads as reads
-use Rattle.exports.proofs.boot_assist_choice.Lts as lts
-use Rattle.boot.proofs.choose.Reads as choose-reads
-use Rattle.exports.proofs.put_choice.Reads as put-choice-reads
 
 choose-requires : tie.Need-choose-requires
 choose-requires c κs = search needs

@@ -1,16 +1,11 @@
-use Rattle.exports.specs.Calls.{rowsAnswer}
-use borrow.Author.Tests.{eq-eqb, ne-eqb}
+-- `exports::boot_assist_rows` meets its contract: the output's length and the numbers, then the mapping.
 use lib.ListN.{length}
 use denote.Ref.{now}
 use borrow.Author.Needs.{needs}
+use borrow.Author.Tests.{eq-eqb, ne-eqb}
+use Rattle.exports.specs.Calls.{rowsAnswer}
 use Rattle.exports.proofs.boot_assist_rows.Statement.{statement}
 use Rattle.exports.proofs.boot_assist_rows.Tie as tie
-use Rattle.exports.proofs.boot_assist_rows.Reads as reads
-use Rattle.exports.proofs.boot_assist_rows.Lts as lts
-use Rattle.exports.proofs.header_of.Reads as header-of-reads
-use Rattle.exports.proofs.mode_of.Reads as mode-of-reads
-use Rattle.exports.proofs.put_mapping.Reads as put-mapping-reads
-use Rattle.mmu.proofs.rows.Reads as rows-reads
 
 mode-of-requires : tie.Need-mode-of-requires
 mode-of-requires c κs = search needs

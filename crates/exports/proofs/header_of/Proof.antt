@@ -1,14 +1,11 @@
+-- `exports::header_of` meets its contract: each test picks the definition's case.
 use borrow.Author.Tests.{ne-eqb}
 use Rattle.exports.proofs.header_of.Statement.{statement}
 use Rattle.exports.proofs.header_of.Tie as tie
-use Rattle.exports.proofs.header_of.Reads as reads
-use Rattle.exports.proofs.header_of.Lts as lts
 
--- src/lib.rt:58:9
 returns : tie.Need-returns
 returns c = rw (c .if1 .taken)
 
--- src/lib.rt:54:1
 returns-2 : tie.Need-returns-2
 returns-2 c = rw (ne-eqb (c .before .args .number) 0 (c .if1 .left))
 

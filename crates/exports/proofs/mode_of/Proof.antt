@@ -1,26 +1,20 @@
+-- `exports::mode_of` meets its contract: each number is the definition's case.
 use borrow.Author.Tests.{ne-eqb}
 use Rattle.exports.proofs.mode_of.Statement.{statement}
 use Rattle.exports.proofs.mode_of.Tie as tie
-use Rattle.exports.proofs.mode_of.Reads as reads
-use Rattle.exports.proofs.mode_of.Lts as lts
 
--- src/lib.rt:41:1
 returns : tie.Need-returns
 returns c = rw (c .match .keys1)
 
--- src/lib.rt:41:1
 returns-2 : tie.Need-returns-2
 returns-2 c = rw (c .match .keys2)
 
--- src/lib.rt:41:1
 returns-3 : tie.Need-returns-3
 returns-3 c = rw (c .match .keys3)
 
--- src/lib.rt:41:1
 returns-4 : tie.Need-returns-4
 returns-4 c = rw (c .match .keys4)
 
--- src/lib.rt:41:1
 returns-5 : tie.Need-returns-5
 returns-5 c =
     let n = c .before .args .number in

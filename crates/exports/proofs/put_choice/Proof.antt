@@ -1,17 +1,11 @@
-use mathlib.Core.Path.{_≡_}
-use native.Mathlib.Omega.{arith}
-use lib.ListN.{length, drop-of-length-le}
+-- `exports::put_choice` meets its contract: a refused choice leaves the outputs; another is copied over them whole.
+use mathlib.Core.Path.{_≡_, ap}
+use lib.ListN.{length}
 use denote.Ref.{now}
-use Rattle.exports.specs.Numbers.{bootNumbers}
-use Rattle.exports.proofs.Copy.{whole}
 use borrow.Author.Needs.{needs}
+use Rattle.exports.proofs.Copy.{whole}
 use Rattle.exports.proofs.put_choice.Statement.{statement}
 use Rattle.exports.proofs.put_choice.Tie as tie
-use Rattle.exports.proofs.put_choice.Reads as reads
-use Rattle.exports.proofs.put_choice.Lts as lts
-use Rattle.exports.proofs.boot_numbers.Reads as boot-numbers-reads
-use Rattle.exports.proofs.put_bytes.Reads as put-bytes-reads
-use Rattle.exports.proofs.put_numbers.Reads as put-numbers-reads
 
 enum-known-answer : tie.Need-enum-known-answer
 enum-known-answer c = search needs
@@ -39,9 +33,18 @@ same-length-2 c = search needs
 
 returns-2 : tie.Need-returns-2
 returns-2 c =
-    let a = c .before .before .before .before .before .before .before .before .before .before .before .before .before .before .before .args in
-    let selected : length (a .choice .password) ≡ 8 = search needs in
-    rw (c .before .before .put-bytes .ensures, whole (now (a .password)) (a .choice .password) (c .before .before .before .before .before .before .before .before .before .before .before .before .before .before .before .pre .1) selected, c .before .before .before .before .before .before .put-numbers .ensures, c .before .before .before .before .before .before .before .boot-numbers .ensures, drop-of-length-le (now (a .fields)) {i = 8} (omega (arith, c .before .before .before .before .before .before .before .before .before .before .before .before .before .before .before .pre .0)), c .before .before .before .before .before .before .before .before .before .before .before .answer .given .1)
+    let known = c .before .before .before .before .before .before .before .before .before .before .before in
+    let start = known .before .before .before .before in
+    let numbers = c .before .before .before .before .before .before .before .boot-numbers in
+    let selected : length (start .args .choice .password) ≡ 8 = search needs in
+    rw (
+      c .before .before .put-bytes .ensures,
+      whole (now (start .args .password)) (start .args .choice .password) (start .pre .1) selected,
+      c .before .before .before .before .before .before .put-numbers .ensures,
+      whole (now (start .args .fields)) (numbers .result) (start .pre .0) (ap length (numbers .ensures)),
+      numbers .ensures,
+      known .answer .given .1,
+    )
 
 pub put-choice-spec : {M : Type 1} → statement M
 put-choice-spec =

@@ -1,10 +1,8 @@
-use borrow.Author.Tests.{ne-eqb}
+-- `exports::put_mapping` meets its contract: refused rows leave the output; others are written over it.
 use borrow.Author.Needs.{needs}
+use borrow.Author.Tests.{ne-eqb}
 use Rattle.exports.proofs.put_mapping.Statement.{statement}
 use Rattle.exports.proofs.put_mapping.Tie as tie
-use Rattle.exports.proofs.put_mapping.Reads as reads
-use Rattle.exports.proofs.put_mapping.Lts as lts
-use Rattle.exports.proofs.put_rows.Reads as put-rows-reads
 
 put-rows-requires : tie.Need-put-rows-requires
 put-rows-requires c κs = search needs

@@ -1,16 +1,14 @@
 -- `exports::put_numbers` meets its contract: after i turns the first i are in place.
-use Prim.Native.Nat.{_+_, _≤_, _-_}
+use Prim.Native.Nat.{_≤_, _-_}
 use native.Mathlib.Omega.{arith}
-use borrow.Author.Needs.{needs}
 use mathlib.Core.Path.{_≡_}
 use lib.ListN.{length}
 use lib.Seq.{paste}
 use denote.Ref.{now}
+use borrow.Author.Needs.{needs}
 use Rattle.exports.proofs.Copy.{begun, turn, kept, done}
 use Rattle.exports.proofs.put_numbers.Statement.{statement}
 use Rattle.exports.proofs.put_numbers.Tie as tie
-use Rattle.exports.proofs.put_numbers.Reads as reads
-use Rattle.exports.proofs.put_numbers.Lts as lts
 
 abbrev Inv-loop : tie.InvT-loop
 Inv-loop out₀ at numbers i₀ out i = (i ≤ 8) × (out ≡ paste out₀ at numbers i) × (length numbers ≡ 8)

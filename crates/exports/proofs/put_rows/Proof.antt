@@ -1,19 +1,15 @@
 -- `exports::put_rows` meets its contract: after i turns the numbers of the first i rows are in place.
-use Prim.Native.Nat.{_+_, _*_, _≤_, _-_}
+use Prim.Native.Nat.{_*_, _≤_, _-_}
 use native.Mathlib.Omega.{arith}
-use borrow.Author.Needs.{needs}
-use mathlib.Core.Path.{_≡_, refl}
 use mathlib.Core.List.{_++_}
+use mathlib.Core.Path.{_≡_, refl}
 use lib.ListN.{length, take, drop}
 use denote.Ref.{now}
+use borrow.Author.Needs.{needs}
 use Rattle.exports.specs.Numbers.{rowsNumbers}
 use Rattle.exports.proofs.Rows.{turn, kept, done}
 use Rattle.exports.proofs.put_rows.Statement.{statement}
 use Rattle.exports.proofs.put_rows.Tie as tie
-use Rattle.exports.proofs.put_rows.Reads as reads
-use Rattle.exports.proofs.put_rows.Lts as lts
-use Rattle.exports.proofs.put_numbers.Reads as put-numbers-reads
-use Rattle.exports.proofs.row_numbers.Reads as row-numbers-reads
 
 abbrev Inv-loop : tie.InvT-loop
 Inv-loop out₀ rows i₀ out i = (i ≤ 5) × (out ≡ rowsNumbers (take i rows) ++ drop (8 * i) out₀) × (length rows ≡ 5)

@@ -1,43 +1,32 @@
+-- `octets::first_eight` meets its contract: each of the eight is what `byte` ensures.
 use borrow.Author.Needs.{needs}
 use Rattle.octets.proofs.first_eight.Statement.{statement}
 use Rattle.octets.proofs.first_eight.Tie as tie
-use Rattle.octets.proofs.first_eight.Reads as reads
-use Rattle.octets.proofs.first_eight.Lts as lts
-use Rattle.octets.proofs.byte.Reads as byte-reads
 
--- src/lib.rt:52:9
 byte-requires : tie.Need-byte-requires
 byte-requires c κs = search needs
 
--- src/lib.rt:53:9
 byte-requires-2 : tie.Need-byte-requires-2
 byte-requires-2 c κs = search needs
 
--- src/lib.rt:54:9
 byte-requires-3 : tie.Need-byte-requires-3
 byte-requires-3 c κs = search needs
 
--- src/lib.rt:55:9
 byte-requires-4 : tie.Need-byte-requires-4
 byte-requires-4 c κs = search needs
 
--- src/lib.rt:56:9
 byte-requires-5 : tie.Need-byte-requires-5
 byte-requires-5 c κs = search needs
 
--- src/lib.rt:57:9
 byte-requires-6 : tie.Need-byte-requires-6
 byte-requires-6 c κs = search needs
 
--- src/lib.rt:58:9
 byte-requires-7 : tie.Need-byte-requires-7
 byte-requires-7 c κs = search needs
 
--- src/lib.rt:59:9
 byte-requires-8 : tie.Need-byte-requires-8
 byte-requires-8 c κs = search needs
 
--- src/lib.rt:48:1
 returns : tie.Need-returns
 returns c = cc
 

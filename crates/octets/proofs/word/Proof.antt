@@ -1,46 +1,35 @@
-use borrow.Author.Needs.{needs}
+-- `octets::word` meets its contract: past the end both half words read as 0.
 use mathlib.Core.Path.{sym}
 use denote.Ref.{now}
+use borrow.Author.Needs.{needs}
 use Rattle.octets.proofs.Past.{word-past}
 use Rattle.octets.proofs.word.Statement.{statement}
 use Rattle.octets.proofs.word.Tie as tie
-use Rattle.octets.proofs.word.Reads as reads
-use Rattle.octets.proofs.word.Lts as lts
-use Rattle.octets.proofs.half.Reads as half-reads
 
--- src/lib.rt:40:13
 half-requires : tie.Need-half-requires
 half-requires c κs = search needs
 
--- src/lib.rt:41:27
 add-half : tie.Need-add-half
 add-half c = search needs
 
--- src/lib.rt:41:13
 half-requires-2 : tie.Need-half-requires-2
 half-requires-2 c κs = search needs
 
--- src/lib.rt:42:17
 cast-result : tie.Need-cast-result
 cast-result c = search needs
 
--- src/lib.rt:42:16
 mul-result : tie.Need-mul-result
 mul-result c = search needs
 
--- src/lib.rt:42:41
 cast-result-2 : tie.Need-cast-result-2
 cast-result-2 c = search needs
 
--- src/lib.rt:42:16
 add-result : tie.Need-add-result
 add-result c = search needs
 
--- src/lib.rt:42:9
 returns : tie.Need-returns
 returns c = search needs
 
--- src/lib.rt:36:1
 returns-2 : tie.Need-returns-2
 returns-2 c = sym (word-past (now (c .before .before .args .s)) (c .before .before .args .at) (c .if1 .left))
 

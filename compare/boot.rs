@@ -1,0 +1,577 @@
+//! The boot choice and the MMU rows: the inputs, and the comparison of the answers.
+
+use crate::random::Random;
+use crate::{ours, Among, Tally};
+use reference::boot::{choose, Choice, Entered, Mode};
+use reference::mmu::{rows, Header, Row};
+use std::array;
+use std::fmt;
+
+/// Where the internal flash is looked at, in the order of the search.
+const PLACES: [usize; 6] = [0, 0x4000, 0x1_0000, 0x1_C000, 0x2_0000, 0x3_0000];
+/// Sets of good places: bit 0 is the first place.
+const NONE: u8 = 0;
+const ALL: u8 = 0x3F;
+
+const FLASH_MAX: usize = 2_097_152;
+const SHADOW: usize = 12;
+const HEAD: usize = 8;
+const FIELDS: usize = 8;
+const PASSWORD: usize = 8;
+const ROWS: usize = 40;
+/// Output buffers go on for this many behind the largest length handed in.
+const BEYOND: usize = 8;
+
+const BOOT_ID: u8 = 0x5A;
+const CONTROLS: [u16; 5] = [0x55AA, 0xAA55, 0x0000, 0xFFFF, 0x55AB];
+
+/// In the order of boot_assist_mode.
+const MODES: [Mode; 5] = [
+    Mode::Internal,
+    Mode::External,
+    Mode::Serial(Entered::Asked),
+    Mode::Serial(Entered::FromInternal),
+    Mode::Serial(Entered::FromExternal),
+];
+const MODE_NAMES: [&str; 5] = [
+    "internal",
+    "external",
+    "serial directly",
+    "serial from internal",
+    "serial from external",
+];
+
+/// In the order of boot_assist_header.
+const HEADERS: [Header; 3] = [
+    Header::NotAccepted,
+    Header::Accepted { vle: false },
+    Header::Accepted { vle: true },
+];
+
+/// In the order of boot_assist_field.
+const FIELD_NAMES: [&str; FIELDS] = [
+    "mode", "place", "looked", "jump", "watchdog", "bus16", "flash", "nexus",
+];
+
+/// In the order of boot_assist_row.
+const ROW_NAMES: [&str; 8] = [
+    "logical",
+    "physical",
+    "size",
+    "inhibited",
+    "guarded",
+    "big endian",
+    "global PID",
+    "VLE",
+];
+
+/// Compares the systematic inputs, then `count` random ones. An error is the report
+/// of the first difference.
+pub fn run(random: Random, count: u64, tally: &mut Tally) -> Result<(), String> {
+    for (thing, values) in [
+        ("choice", &["0", "9"][..]),
+        ("mode", &MODE_NAMES),
+        ("rank", &["1", "2", "3", "4", "5", "6"]),
+        ("looked", &["0", "1", "2", "3", "4", "5", "6"]),
+        ("watchdog", &["0", "1"]),
+        ("bus16", &["0", "1"]),
+        ("flash", &["0", "1"]),
+        ("nexus", &["0", "1"]),
+        ("password", &["public", "flash"]),
+    ] {
+        tally.expect(thing, Among::Random, values);
+    }
+    tally.expect("rows", Among::All, &["0", "9", "11"]);
+
+    let mut boot = Boot::new(random, tally);
+    for bootcfg in 0..=3 {
+        boot.flash_lengths(bootcfg)?;
+        boot.good_places(bootcfg)?;
+        boot.half_words(bootcfg)?;
+        boot.controls(bootcfg)?;
+        boot.shadow_and_head_lengths(bootcfg)?;
+    }
+    boot.bootcfgs()?;
+    boot.output_lengths()?;
+    boot.rows()?;
+    boot.at_random = true;
+    for _ in 0..count {
+        boot.random_input()?;
+    }
+    Ok(())
+}
+
+/// An input of the boot choice.
+struct Input {
+    bootcfg: u8,
+    flash_len: usize,
+    /// The bytes at each place; the flash may end before or in them.
+    places: [[u8; 8]; 6],
+    shadow: Vec<u8>,
+    head: Vec<u8>,
+    fields_len: usize,
+    password_len: usize,
+}
+
+impl fmt::Display for Input {
+    fn fmt(&self, f: &mut fmt::Formatter) -> fmt::Result {
+        writeln!(f, "boot_assist_choice, BOOTCFG {}", self.bootcfg)?;
+        writeln!(f, "flash of {} bytes, at its places:", self.flash_len)?;
+        for (place, bytes) in PLACES.into_iter().zip(&self.places) {
+            let inside = self.flash_len.saturating_sub(place).min(8);
+            let cut = " -".repeat(8 - inside);
+            writeln!(f, "  {place:#07x}{}{cut}", hex(&bytes[..inside]))?;
+        }
+        writeln!(f, "shadow, {}:{}", self.shadow.len(), hex(&self.shadow))?;
+        writeln!(f, "head, {}:{}", self.head.len(), hex(&self.head))?;
+        write!(f, "fields_len {}, ", self.fields_len)?;
+        writeln!(f, "password_len {}", self.password_len)
+    }
+}
+
+fn hex(bytes: &[u8]) -> String {
+    bytes.iter().map(|byte| format!(" {byte:02X}")).collect()
+}
+
+/// What a call returned, and its output buffers after it.
+#[derive(Clone, PartialEq)]
+struct Answer {
+    number: u8,
+    words: Vec<u32>,
+    bytes: Vec<u8>,
+}
+
+impl Answer {
+    /// Output buffers of random content, for what a call must leave alone.
+    fn before(random: &mut Random, words: usize, bytes: usize) -> Self {
+        Answer {
+            number: 0,
+            words: (0..words).map(|_| random.number() as u32).collect(),
+            bytes: (0..bytes).map(|_| random.byte()).collect(),
+        }
+    }
+}
+
+/// Both answers side by side, with a star where they differ. What a call must leave
+/// alone has the content before the call, and no name beyond `names`.
+fn side_by_side(ours: &Answer, reference: &Answer, names: &[String]) -> String {
+    let line = |name: &str, ours: String, reference: String| {
+        let mark = if ours == reference { ' ' } else { '*' };
+        format!("{mark} {name:<16} {ours:<24} {reference}\n")
+    };
+    let mut text = format!("  {:<16} {:<24} reference\n", "", "ours");
+    let number = |answer: &Answer| answer.number.to_string();
+    text += &line("number", number(ours), number(reference));
+    for (index, (ours, reference)) in ours.words.iter().zip(&reference.words).enumerate() {
+        let beyond = format!("beyond, {index}");
+        let name = names.get(index).unwrap_or(&beyond);
+        text += &line(name, format!("{ours:#x}"), format!("{reference:#x}"));
+    }
+    for (ours, reference) in ours.bytes.chunks(8).zip(reference.bytes.chunks(8)) {
+        text += &line("password buffer", hex(ours), hex(reference));
+    }
+    text
+}
+
+struct Boot<'a> {
+    random: Random,
+    tally: &'a mut Tally,
+    /// Of the largest length handed in; a shorter flash is its beginning.
+    flash: Vec<u8>,
+    /// Whether the inputs are now random ones, for the tally.
+    at_random: bool,
+}
+
+impl<'a> Boot<'a> {
+    fn new(mut random: Random, tally: &'a mut Tally) -> Self {
+        // Half of the bytes are the boot identifier: a look at a wrong place finds it.
+        let mut byte = |_| {
+            if random.chance(2) {
+                BOOT_ID
+            } else {
+                random.byte()
+            }
+        };
+        let flash = (0..=FLASH_MAX).map(&mut byte).collect();
+        Boot {
+            random,
+            tally,
+            flash,
+            at_random: false,
+        }
+    }
+
+    /// The 8 bytes at a place or of the external head.
+    fn block(&mut self, good: bool) -> [u8; 8] {
+        let mut block = array::from_fn(|_| self.random.byte());
+        if good {
+            block[1] = BOOT_ID;
+        } else if block[1] == BOOT_ID || self.random.chance(4) {
+            block[1] = BOOT_ID ^ 1 << self.random.below(8);
+        }
+        block
+    }
+
+    fn shadow(&mut self, censorship: u16, serial: u16) -> Vec<u8> {
+        let mut shadow: Vec<u8> = (0..8).map(|_| self.random.byte()).collect();
+        shadow.extend(censorship.to_be_bytes());
+        shadow.extend(serial.to_be_bytes());
+        shadow
+    }
+
+    /// A control half word, often 55AA or near it.
+    fn control(&mut self) -> u16 {
+        match self.random.below(4) {
+            0 => self.random.pick(&CONTROLS),
+            1 => 0x55AA ^ 1 << self.random.below(16),
+            2 => self.random.number() as u16,
+            _ => 0x55AA,
+        }
+    }
+
+    /// An input with every length right and the largest flash. Whether its places and
+    /// its head are good is told; the rest is random.
+    fn input(&mut self, bootcfg: u8, good: u8, good_head: bool) -> Input {
+        let (censorship, serial) = (self.control(), self.control());
+        Input {
+            bootcfg,
+            flash_len: FLASH_MAX,
+            places: array::from_fn(|rank| self.block(good >> rank & 1 == 1)),
+            shadow: self.shadow(censorship, serial),
+            head: self.block(good_head).to_vec(),
+            fields_len: FIELDS,
+            password_len: PASSWORD,
+        }
+    }
+
+    /// Flash ends about each place's end, empty flash, the largest, and one too large.
+    fn flash_lengths(&mut self, bootcfg: u8) -> Result<(), String> {
+        for (rank, place) in PLACES.into_iter().enumerate() {
+            for flash_len in place..=place + 16 {
+                for good in [1 << rank, ALL] {
+                    let input = self.input(bootcfg, good, true);
+                    self.compare(&Input { flash_len, ..input })?;
+                }
+            }
+        }
+        for flash_len in [0, FLASH_MAX, FLASH_MAX + 1] {
+            for good in [NONE, ALL] {
+                for good_head in [false, true] {
+                    let input = self.input(bootcfg, good, good_head);
+                    self.compare(&Input { flash_len, ..input })?;
+                }
+            }
+        }
+        Ok(())
+    }
+
+    /// Every set of good places, with the external head good and bad.
+    fn good_places(&mut self, bootcfg: u8) -> Result<(), String> {
+        for good in NONE..=ALL {
+            for good_head in [false, true] {
+                let input = self.input(bootcfg, good, good_head);
+                self.compare(&input)?;
+            }
+        }
+        Ok(())
+    }
+
+    /// Every first and every second byte of the half word, and the boot identifier in
+    /// the first or third byte, at each place and in the external head.
+    fn half_words(&mut self, bootcfg: u8) -> Result<(), String> {
+        for rank in 0..PLACES.len() {
+            for at in [0, 1] {
+                for byte in 0..=255 {
+                    let mut input = self.input(bootcfg, 1 << rank, true);
+                    input.places[rank][at] = byte;
+                    input.head[at] = byte;
+                    self.compare(&input)?;
+                }
+            }
+            for at in [0, 2] {
+                for good in [NONE, ALL ^ 1 << rank] {
+                    let mut input = self.input(bootcfg, good, false);
+                    input.places[rank][at] = BOOT_ID;
+                    input.head[at] = BOOT_ID;
+                    self.compare(&input)?;
+                }
+            }
+        }
+        Ok(())
+    }
+
+    /// Both control half words, with something to boot and with nothing.
+    fn controls(&mut self, bootcfg: u8) -> Result<(), String> {
+        let controls = |random: &mut Random| {
+            let other = random.number() as u16;
+            CONTROLS.into_iter().chain([other])
+        };
+        for censorship in controls(&mut self.random) {
+            for serial in controls(&mut self.random) {
+                for (good, good_head) in [(NONE, false), (ALL, true)] {
+                    let shadow = self.shadow(censorship, serial);
+                    let input = self.input(bootcfg, good, good_head);
+                    self.compare(&Input { shadow, ..input })?;
+                }
+            }
+        }
+        Ok(())
+    }
+
+    fn shadow_and_head_lengths(&mut self, bootcfg: u8) -> Result<(), String> {
+        for shadow_len in 0..=16 {
+            for head_len in 0..=16 {
+                let mut input = self.input(bootcfg, ALL, true);
+                input.shadow.resize(shadow_len, self.random.byte());
+                input.head.resize(head_len, self.random.byte());
+                self.compare(&input)?;
+            }
+        }
+        Ok(())
+    }
+
+    fn bootcfgs(&mut self) -> Result<(), String> {
+        for bootcfg in 0..=255 {
+            for (good, good_head) in [(NONE, false), (ALL, true)] {
+                let input = self.input(bootcfg, good, good_head);
+                self.compare(&input)?;
+            }
+        }
+        Ok(())
+    }
+
+    /// Every pair of output lengths but the right one, with inputs that would be
+    /// answered and with inputs that would not.
+    fn output_lengths(&mut self) -> Result<(), String> {
+        for bootcfg in 0..=4 {
+            for (flash_len, shadow_len, head_len) in [
+                (FLASH_MAX, SHADOW, HEAD),
+                (FLASH_MAX + 1, SHADOW, HEAD),
+                (FLASH_MAX, SHADOW - 1, HEAD),
+                (FLASH_MAX, SHADOW, HEAD + 1),
+            ] {
+                for fields_len in 0..=16 {
+                    for password_len in 0..=16 {
+                        if (fields_len, password_len) == (FIELDS, PASSWORD) {
+                            continue;
+                        }
+                        let good = self.random.pick(&[NONE, ALL]);
+                        let good_head = self.random.chance(2);
+                        let mut input = self.input(bootcfg, good, good_head);
+                        input.flash_len = flash_len;
+                        input.shadow.resize(shadow_len, 0);
+                        input.head.resize(head_len, 0);
+                        input.fields_len = fields_len;
+                        input.password_len = password_len;
+                        self.compare(&input)?;
+                    }
+                }
+            }
+        }
+        Ok(())
+    }
+
+    /// A random input: shaped as the systematic ones, and at times bent.
+    fn random_input(&mut self) -> Result<(), String> {
+        for _ in 0..2 {
+            let spot = self.random.below(FLASH_MAX - 8);
+            let block = self.block(true);
+            self.flash[spot..spot + 8].copy_from_slice(&block);
+        }
+
+        let bootcfg = if self.random.chance(32) {
+            self.random.byte()
+        } else {
+            self.random.pick(&[0, 0, 0, 1, 2, 3])
+        };
+        let good = self.random.byte() & ALL;
+        let good_head = self.random.chance(2);
+        let mut input = self.input(bootcfg, good, good_head);
+        for block in &mut input.places {
+            if self.random.chance(8) {
+                block[self.random.pick(&[0, 2, 3])] = BOOT_ID;
+            }
+        }
+        if self.random.chance(8) {
+            input.head[self.random.pick(&[0, 2, 3])] = BOOT_ID;
+        }
+        input.flash_len = match self.random.below(16) {
+            0..=9 => self.random.pick(&PLACES) + self.random.below(17),
+            10..=12 => self.random.below(FLASH_MAX + 2),
+            13 => self.random.pick(&[0, FLASH_MAX + 1]),
+            _ => FLASH_MAX,
+        };
+        if self.random.chance(32) {
+            let len = self.random.below(17);
+            input.shadow.resize(len, self.random.byte());
+        }
+        if self.random.chance(32) {
+            let len = self.random.below(17);
+            input.head.resize(len, self.random.byte());
+        }
+        if self.random.chance(32) {
+            input.fields_len = self.random.below(17);
+        }
+        if self.random.chance(32) {
+            input.password_len = self.random.below(17);
+        }
+        self.compare(&input)
+    }
+
+    fn compare(&mut self, input: &Input) -> Result<(), String> {
+        for (place, block) in PLACES.into_iter().zip(&input.places) {
+            self.flash[place..place + 8].copy_from_slice(block);
+        }
+        let flash = &self.flash[..input.flash_len];
+        let before = Answer::before(&mut self.random, 16 + BEYOND, 16 + BEYOND);
+
+        let mut ours = before.clone();
+        ours.number = ours::choice(
+            input.bootcfg,
+            flash,
+            &input.shadow,
+            &input.head,
+            &mut ours.words[..input.fields_len],
+            &mut ours.bytes[..input.password_len],
+        );
+
+        let expected = expected_choice(input, flash);
+        let mut reference = before;
+        match &expected {
+            Ok(choice) => {
+                reference.words[..FIELDS].copy_from_slice(&fields(choice));
+                reference.bytes[..PASSWORD].copy_from_slice(&choice.password);
+            }
+            Err(number) => reference.number = *number,
+        }
+
+        if ours != reference {
+            let answers = side_by_side(&ours, &reference, &FIELD_NAMES.map(String::from));
+            return Err(format!("{input}{answers}"));
+        }
+        self.count(input, &expected);
+        Ok(())
+    }
+
+    /// Counts an answer that both gave.
+    fn count(&mut self, input: &Input, answer: &Result<Choice, u8>) {
+        self.tally.inputs += 1;
+        let mut count = |thing, value: &str| self.tally.count(thing, value, self.at_random);
+        let choice = match answer {
+            Ok(choice) => choice,
+            Err(number) => return count("choice", &number.to_string()),
+        };
+        let flag = |on| if on { "1" } else { "0" };
+        count("choice", "0");
+        count("mode", MODE_NAMES[mode_number(choice.mode)]);
+        count("looked", &choice.looked.to_string());
+        count("flash", flag(choice.flash_on));
+        count("nexus", flag(choice.nexus_on));
+        let of_flash = choice.password == input.shadow[..PASSWORD];
+        count("password", if of_flash { "flash" } else { "public" });
+        // In a serial choice these two are always 0.
+        if !matches!(choice.mode, Mode::Serial(_)) {
+            count("watchdog", flag(choice.watchdog));
+            count("bus16", flag(choice.bus16));
+        }
+        if choice.mode == Mode::Internal {
+            let before = PLACES
+                .iter()
+                .filter(|&&place| place < choice.place as usize);
+            count("rank", &(before.count() + 1).to_string());
+        }
+    }
+
+    /// Every mode and header there could be, and every wrong length up to 64.
+    fn rows(&mut self) -> Result<(), String> {
+        for mode in 0..=255 {
+            for header in 0..=255 {
+                self.compare_rows(mode, header, ROWS)?;
+            }
+        }
+        for mode in 0..MODES.len() as u8 {
+            for header in 0..HEADERS.len() as u8 {
+                for rows_len in (0..=64).filter(|&len| len != ROWS) {
+                    self.compare_rows(mode, header, rows_len)?;
+                }
+            }
+        }
+        Ok(())
+    }
+
+    fn compare_rows(&mut self, mode: u8, header: u8, rows_len: usize) -> Result<(), String> {
+        let before = Answer::before(&mut self.random, 64 + BEYOND, 0);
+
+        let mut ours = before.clone();
+        ours.number = ours::rows(mode, header, &mut ours.words[..rows_len]);
+
+        let mut reference = before;
+        match expected_rows(mode, header, rows_len) {
+            Ok(rows) => reference.words[..ROWS].copy_from_slice(&rows.map(row_words).concat()),
+            Err(number) => reference.number = number,
+        }
+
+        if ours != reference {
+            let name = |index| format!("row {} {}", index / 8, ROW_NAMES[index % 8]);
+            let names: Vec<String> = (0..ROWS).map(name).collect();
+            let answers = side_by_side(&ours, &reference, &names);
+            return Err(format!(
+                "boot_assist_rows, mode {mode}, header {header}, rows_len {rows_len}\n{answers}"
+            ));
+        }
+        self.tally.inputs += 1;
+        let number = ours.number.to_string();
+        self.tally.count("rows", &number, self.at_random);
+        Ok(())
+    }
+}
+
+/// The reference's answer, after what the C interface alone refuses.
+fn expected_choice(input: &Input, flash: &[u8]) -> Result<Choice, u8> {
+    if input.fields_len != FIELDS || input.password_len != PASSWORD {
+        return Err(9);
+    }
+    choose(input.bootcfg, flash, &input.shadow, &input.head)
+}
+
+/// As `expected_choice`, for the rows.
+fn expected_rows(mode: u8, header: u8, rows_len: usize) -> Result<[Row; 5], u8> {
+    let mode = MODES.get(usize::from(mode));
+    let header = HEADERS.get(usize::from(header));
+    match (mode, header) {
+        (Some(&mode), Some(&header)) if rows_len == ROWS => rows(mode, header),
+        _ => Err(9),
+    }
+}
+
+fn mode_number(mode: Mode) -> usize {
+    MODES.iter().position(|&other| other == mode).unwrap()
+}
+
+/// In the order of boot_assist_field.
+fn fields(choice: &Choice) -> [u32; FIELDS] {
+    [
+        mode_number(choice.mode) as u32,
+        choice.place,
+        choice.looked,
+        choice.jump,
+        choice.watchdog.into(),
+        choice.bus16.into(),
+        choice.flash_on.into(),
+        choice.nexus_on.into(),
+    ]
+}
+
+/// In the order of boot_assist_row.
+fn row_words(row: Row) -> [u32; 8] {
+    [
+        row.logical,
+        row.physical,
+        row.size,
+        row.cache_inhibited.into(),
+        row.guarded.into(),
+        row.big_endian.into(),
+        row.global_pid.into(),
+        row.vle.into(),
+    ]
+}

@@ -1,0 +1,154 @@
+//! Hands the same inputs to the library and to the reference, and compares the
+//! answers: `compare [SEED] [COUNT]`, with COUNT random boot inputs.
+
+mod boot;
+mod ours;
+mod random;
+
+use random::Random;
+use std::env;
+use std::fmt;
+use std::process::ExitCode;
+
+const SEED: u64 = 0x5A55_AAFE_EDFA_CE01;
+const COUNT: u64 = 40_000;
+
+fn main() -> ExitCode {
+    let (seed, count) = match arguments() {
+        Ok(arguments) => arguments,
+        Err(message) => {
+            eprintln!("compare: {message}\nusage: compare [SEED] [COUNT]");
+            return ExitCode::from(2);
+        }
+    };
+    println!("compare: seed {seed:#x}");
+
+    let mut tally = Tally::default();
+    if let Err(difference) = boot::run(Random::new(seed), count, &mut tally) {
+        let number = tally.inputs + 1;
+        println!("compare: difference at seed {seed:#x}, input number {number}\n{difference}");
+        return ExitCode::FAILURE;
+    }
+
+    print!("{tally}");
+    let missing = tally.missing();
+    for thing in &missing {
+        println!("compare: never occurred: {thing}");
+    }
+    if !missing.is_empty() {
+        return ExitCode::FAILURE;
+    }
+    println!("compare: {} inputs compared, 0 differences", tally.inputs);
+    ExitCode::SUCCESS
+}
+
+fn arguments() -> Result<(u64, u64), String> {
+    let arguments: Vec<_> = env::args_os().skip(1).collect();
+    if arguments.len() > 2 {
+        return Err(format!("{} arguments, at most 2 expected", arguments.len()));
+    }
+    let number = |index: usize, name: &str, default: u64| match arguments.get(index) {
+        None => Ok(default),
+        Some(argument) => argument.to_str().and_then(parse).ok_or(format!(
+            "{name} is {argument:?}, a decimal or 0x hexadecimal number of 64 bits expected"
+        )),
+    };
+    Ok((number(0, "SEED", SEED)?, number(1, "COUNT", COUNT)?))
+}
+
+fn parse(text: &str) -> Option<u64> {
+    match text.strip_prefix("0x") {
+        Some(digits) => u64::from_str_radix(digits, 16).ok(),
+        None => text.parse().ok(),
+    }
+}
+
+/// How many inputs were compared, and how often each thing occurred among them.
+#[derive(Default)]
+pub struct Tally {
+    pub inputs: u64,
+    lines: Vec<Line>,
+}
+
+struct Line {
+    thing: &'static str,
+    among: Among,
+    values: Vec<Value>,
+}
+
+/// Where each value of a line has to occur.
+#[derive(Clone, Copy, PartialEq)]
+pub enum Among {
+    Random,
+    All,
+}
+
+struct Value {
+    name: &'static str,
+    random: u64,
+    all: u64,
+}
+
+impl Tally {
+    pub fn expect(&mut self, thing: &'static str, among: Among, names: &[&'static str]) {
+        let value = |&name| Value {
+            name,
+            random: 0,
+            all: 0,
+        };
+        self.lines.push(Line {
+            thing,
+            among,
+            values: names.iter().map(value).collect(),
+        });
+    }
+
+    /// Counts a value that is expected.
+    pub fn count(&mut self, thing: &str, name: &str, random: bool) {
+        let value = (self.lines.iter_mut())
+            .filter(|line| line.thing == thing)
+            .flat_map(|line| &mut line.values)
+            .find(|value| value.name == name)
+            .unwrap_or_else(|| panic!("not in the tally: {thing} {name}"));
+        value.all += 1;
+        value.random += u64::from(random);
+    }
+
+    fn missing(&self) -> Vec<String> {
+        let mut missing = Vec::new();
+        for line in &self.lines {
+            for value in &line.values {
+                match line.among {
+                    Among::Random if value.random == 0 => {
+                        missing.push(format!("{} {}, at random", line.thing, value.name));
+                    }
+                    Among::All if value.all == 0 => {
+                        missing.push(format!("{} {}", line.thing, value.name));
+                    }
+                    _ => {}
+                }
+            }
+        }
+        missing
+    }
+}
+
+/// A line for each thing: each value with how often it occurred.
+impl fmt::Display for Tally {
+    fn fmt(&self, f: &mut fmt::Formatter) -> fmt::Result {
+        writeln!(f, "tally, random inputs/all inputs")?;
+        for line in &self.lines {
+            write!(f, "{:<10}", line.thing)?;
+            for (index, value) in line.values.iter().enumerate() {
+                let comma = if index == 0 { "" } else { "," };
+                write!(f, "{comma} {}: ", value.name)?;
+                if line.among == Among::Random {
+                    write!(f, "{}/", value.random)?;
+                }
+                write!(f, "{}", value.all)?;
+            }
+            writeln!(f)?;
+        }
+        Ok(())
+    }
+}
