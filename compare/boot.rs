@@ -83,7 +83,12 @@ pub fn run(random: Random, count: u64, tally: &mut Tally) -> Result<(), String> 
     }
     tally.expect("rows", Among::All, &["0", "9", "11"]);
 
-    let mut boot = Boot::new(random, tally);
+    let mut boot = Boot {
+        random,
+        tally,
+        flash: vec![BOOT_ID; FLASH_MAX + 1],
+        at_random: false,
+    };
     for bootcfg in 0..=3 {
         boot.flash_lengths(bootcfg)?;
         boot.good_places(bootcfg)?;
@@ -152,8 +157,8 @@ impl Answer {
     }
 }
 
-/// Both answers side by side, with a star where they differ. What a call must leave
-/// alone has the content before the call, and no name beyond `names`.
+/// Both answers side by side, with a star where they differ; words beyond `names` only
+/// where they differ. What a call must leave alone has its content before the call.
 fn side_by_side(ours: &Answer, reference: &Answer, names: &[String]) -> String {
     let line = |name: &str, ours: String, reference: String| {
         let mark = if ours == reference { ' ' } else { '*' };
@@ -165,7 +170,9 @@ fn side_by_side(ours: &Answer, reference: &Answer, names: &[String]) -> String {
     for (index, (ours, reference)) in ours.words.iter().zip(&reference.words).enumerate() {
         let beyond = format!("beyond, {index}");
         let name = names.get(index).unwrap_or(&beyond);
-        text += &line(name, format!("{ours:#x}"), format!("{reference:#x}"));
+        if index < names.len() || ours != reference {
+            text += &line(name, format!("{ours:#x}"), format!("{reference:#x}"));
+        }
     }
     for (ours, reference) in ours.bytes.chunks(8).zip(reference.bytes.chunks(8)) {
         text += &line("password buffer", hex(ours), hex(reference));
@@ -176,31 +183,14 @@ fn side_by_side(ours: &Answer, reference: &Answer, names: &[String]) -> String {
 struct Boot<'a> {
     random: Random,
     tally: &'a mut Tally,
-    /// Of the largest length handed in; a shorter flash is its beginning.
+    /// Of the largest length handed in; a shorter flash is its beginning. Other places
+    /// than the six look good, so that a look there is seen.
     flash: Vec<u8>,
     /// Whether the inputs are now random ones, for the tally.
     at_random: bool,
 }
 
-impl<'a> Boot<'a> {
-    fn new(mut random: Random, tally: &'a mut Tally) -> Self {
-        // Half of the bytes are the boot identifier: a look at a wrong place finds it.
-        let mut byte = |_| {
-            if random.chance(2) {
-                BOOT_ID
-            } else {
-                random.byte()
-            }
-        };
-        let flash = (0..=FLASH_MAX).map(&mut byte).collect();
-        Boot {
-            random,
-            tally,
-            flash,
-            at_random: false,
-        }
-    }
-
+impl Boot<'_> {
     /// The 8 bytes at a place or of the external head.
     fn block(&mut self, good: bool) -> [u8; 8] {
         let mut block = array::from_fn(|_| self.random.byte());

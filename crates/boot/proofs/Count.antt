@@ -10,8 +10,8 @@ use Rattle.boot.specs.declared.Look.{Look}
 use Rattle.boot.specs.declared.Mode.{Mode}
 use Rattle.boot.specs.declared.Row.{Row}
 use Rattle.boot.specs.Places.{flashPlaces, headPlaces}
-use Rattle.boot.specs.Table.{asked}
-use Rattle.boot.specs.Choosing.{allowed, settled, chosen, choice, lookedOf}
+use Rattle.boot.specs.Table.{askedBy}
+use Rattle.boot.specs.Choosing.{allowed, settled, chosen, bootChoice, lookedOf}
 use Rattle.boot.proofs.Walk.{either, walk-counts}
 
 Few : Choice → Type 0
@@ -30,15 +30,15 @@ chosen-few Asked.Internal flash shadow head = settled-few _ _ _ _ _ (walk-counts
 chosen-few Asked.External flash shadow head = settled-few _ _ _ _ _ (omega (arith, walk-counts head 0 headPlaces))
 chosen-few Asked.Serial flash shadow head = omega arith
 
-at-most-six : (bootcfg : ℕ) (flash shadow head : List ℕ) → Few (choice bootcfg flash shadow head)
-unfolding choice Few
+at-most-six : (bootcfg : ℕ) (flash shadow head : List ℕ) → Few (bootChoice bootcfg flash shadow head)
+unfolding bootChoice Few
 at-most-six bootcfg flash shadow head =
-    either Few (allowed bootcfg flash shadow head) (chosen-few (asked bootcfg) flash shadow head) (omega arith)
+    either Few (allowed bootcfg flash shadow head) (chosen-few (askedBy bootcfg) flash shadow head) (omega arith)
 
 -- the claim of `choose`, from its equation
 pub counted
     : (bootcfg : ℕ) (flash shadow head : List ℕ) {r : Choice}
-    → r ≡ choice bootcfg flash shadow head
-    → (r ≡ choice bootcfg flash shadow head) × (lookedOf (r .answer) ≤ 6)
+    → r ≡ bootChoice bootcfg flash shadow head
+    → (r ≡ bootChoice bootcfg flash shadow head) × (lookedOf (r .answer) ≤ 6)
 unfolding Few
 counted bootcfg flash shadow head e = (e, rw e (at-most-six bootcfg flash shadow head))

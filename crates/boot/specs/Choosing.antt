@@ -14,7 +14,7 @@ use Rattle.boot.specs.declared.Boot.{Boot}
 use Rattle.boot.specs.declared.Answer.{Answer}
 use Rattle.boot.specs.declared.Choice.{Choice}
 use Rattle.boot.specs.Places.{flashPlaces, headPlaces, walk, watchdogAt, bus16At}
-use Rattle.boot.specs.Table.{asked, row}
+use Rattle.boot.specs.Table.{askedBy, rowFor}
 
 -- "BOOTCFG (0 to 3); the flash from address 0 (at most 2,097,152 bytes, any shorter length too); 12 shadow bytes ..; the first 8 bytes
 -- of external memory"
@@ -72,15 +72,15 @@ settled mode entered memory look row =
 -- Internal, External, and "BOOTCFG 1: serial, count 0"; how serial was entered decides its MMU rows (000, 16.3.2.3.1)
 unfoldable pub chosen : Asked → List ℕ → List ℕ → List ℕ → Choice
 chosen Asked.Internal flash shadow head =
-    settled Mode.Internal Entered.FromInternal flash (walk flash 0 flashPlaces) (row Asked.Internal shadow)
+    settled Mode.Internal Entered.FromInternal flash (walk flash 0 flashPlaces) (rowFor Asked.Internal shadow)
 chosen Asked.External flash shadow head =
-    settled Mode.External Entered.FromExternal head (walk head 0 headPlaces) (row Asked.External shadow)
-chosen Asked.Serial flash shadow head = serial Entered.Directly 0 (row Asked.Serial shadow)
+    settled Mode.External Entered.FromExternal head (walk head 0 headPlaces) (rowFor Asked.External shadow)
+chosen Asked.Serial flash shadow head = serial Entered.Directly 0 (rowFor Asked.Serial shadow)
 
 -- the answer of the call, for every input
-unfoldable pub choice : ℕ → List ℕ → List ℕ → List ℕ → Choice
-choice bootcfg flash shadow head =
-    cond (allowed bootcfg flash shadow head) (chosen (asked bootcfg) flash shadow head) refused
+unfoldable pub bootChoice : ℕ → List ℕ → List ℕ → List ℕ → Choice
+bootChoice bootcfg flash shadow head =
+    cond (allowed bootcfg flash shadow head) (chosen (askedBy bootcfg) flash shadow head) refused
 
 -- the numbers of the answers (01, "What the head says back")
 abbrev pub numberOf : Answer → ℕ

@@ -8,8 +8,8 @@ use Rattle.boot.specs.declared.Asked.{Asked}
 use Rattle.boot.specs.declared.Row.{Row}
 
 -- the column BOOTCFG: 0 internal, 1 serial, 2 and 3 external
-unfoldable pub asked : ℕ → Asked
-asked bootcfg = cond (eqb bootcfg 0) Asked.Internal (cond (eqb bootcfg 1) Asked.Serial Asked.External)
+unfoldable pub askedBy : ℕ → Asked
+askedBy bootcfg = cond (eqb bootcfg 0) Asked.Internal (cond (eqb bootcfg 1) Asked.Serial Asked.External)
 
 -- "12 shadow bytes, being the 8 password bytes, censorship control (2) and serial boot control (2)"
 abbrev pub censorshipControl : List ℕ → ℕ
@@ -41,5 +41,5 @@ rowOf Asked.External false shadow = record { flash = false; nexus = true; passwo
 rowOf Asked.External true shadow = record { flash = true; nexus = true; password = publicPassword }
 
 -- the row that holds
-unfoldable pub row : Asked → List ℕ → Row
-row asked shadow = rowOf asked (control55AA asked shadow) shadow
+unfoldable pub rowFor : Asked → List ℕ → Row
+rowFor asked shadow = rowOf asked (control55AA asked shadow) shadow

@@ -3,8 +3,8 @@
 ghost use mathlib.Core.Path.{_≡_};
 ghost use Prim.Native.Nat.{_≤_};
 ghost use Rattle.boot.specs.Places.{flashPlaces, headPlaces, good, walk, watchdogAt, bus16At};
-ghost use Rattle.boot.specs.Table.{asked, control55AA, rowOf, row};
-ghost use Rattle.boot.specs.Choosing.{allowed, boots, serial, settled, chosen, choice, lookedOf};
+ghost use Rattle.boot.specs.Table.{askedBy, control55AA, rowOf, rowFor};
+ghost use Rattle.boot.specs.Choosing.{allowed, boots, serial, settled, chosen, bootChoice, lookedOf};
 
 // What BOOTCFG asks for.
 pub enum Asked {
@@ -105,7 +105,7 @@ fn first_good(flash: &[u8]) -> Look
 
 // What the column BOOTCFG of the table says.
 fn asked_by(bootcfg: u8) -> Asked
-    ensures { λ r. ⌜ r ≡ asked bootcfg ⌝ }
+    ensures { λ r. ⌜ r ≡ askedBy bootcfg ⌝ }
 {
     if bootcfg == 0 {
         return Asked::Internal;
@@ -241,7 +241,7 @@ fn settle(mode: Mode, entered: Entered, memory: &[u8], look: Look, row: Row) -> 
 
 // The row that holds, by BOOTCFG and the shadow row's controls.
 fn row_for(asked: Asked, shadow: &[u8]) -> Row
-    ensures { λ r. ⌜ r ≡ row asked (now (shadow .entry)) ⌝ }
+    ensures { λ r. ⌜ r ≡ rowFor asked (now (shadow .entry)) ⌝ }
 {
     row_of(asked, has_55aa(asked, shadow), shadow)
 }
@@ -283,7 +283,7 @@ fn chosen_for(asked: Asked, flash: &[u8], shadow: &[u8], head: &[u8]) -> Choice
 
 // The boot choice, for every input.
 pub fn choose(bootcfg: u8, flash: &[u8], shadow: &[u8], head: &[u8]) -> Choice
-    ensures choice { λ r. ⌜ r ≡ choice bootcfg (now (flash .entry)) (now (shadow .entry)) (now (head .entry)) ⌝ }
+    ensures choice { λ r. ⌜ r ≡ bootChoice bootcfg (now (flash .entry)) (now (shadow .entry)) (now (head .entry)) ⌝ }
     ensures at_most_six { λ r. ⌜ lookedOf (r .answer) ≤ 6 ⌝ }
 {
     if is_allowed(bootcfg, flash, shadow, head) {

@@ -4,7 +4,7 @@ ghost use Prim.Native.Nat.{_+_, _≤_};
 ghost use lib.ListN.{length};
 ghost use lib.Seq.{paste};
 ghost use Rattle.exports.specs.Numbers.{bit, modeNumber, modeOf, headerOf, bootNumbers, rowNumbers, rowsNumbers};
-ghost use Rattle.exports.specs.Calls.{choiceCall, choiceLeaves, choiceAnswer, rowsCall, rowsLeave, rowsAnswer};
+ghost use Rattle.exports.specs.Calls.{asChoiceReply, choiceLeaves, choiceAnswer, asRowsReply, rowsLeave, rowsAnswer};
 use boot::Answer;
 use boot::Boot;
 use boot::Choice;
@@ -129,7 +129,7 @@ fn put_rows(out: &mut [u32], rows: [Row; 5])
 // Writes a choice, where it is not refused, and returns its number.
 fn put_choice(fields: &mut [u32], password: &mut [u8], choice: Choice) -> u8
     requires { ⌜ (length (now fields) ≡ 8) × (length (now password) ≡ 8) ⌝ }
-    ensures { λ r. ⌜ choiceCall r (now (fields .exit)) (now (password .exit)) ≡ choiceLeaves choice (now (fields .entry)) (now (password .entry)) ⌝ }
+    ensures { λ r. ⌜ asChoiceReply r (now (fields .exit)) (now (password .exit)) ≡ choiceLeaves choice (now (fields .entry)) (now (password .entry)) ⌝ }
 {
     let answer = choice.answer;
     let Answer::Boots(boot) = answer else {
@@ -152,7 +152,7 @@ pub extern "C" fn boot_assist_choice(
     password: &mut [u8],
 ) -> u8
     ensures { λ r. ⌜
-        choiceCall r (now (fields .exit)) (now (password .exit))
+        asChoiceReply r (now (fields .exit)) (now (password .exit))
         ≡ choiceAnswer bootcfg (now (flash .entry)) (now (shadow .entry)) (now (head .entry)) (now (fields .entry)) (now (password .entry))
         ⌝ }
 {
@@ -167,7 +167,7 @@ pub extern "C" fn boot_assist_choice(
 // Writes a mapping, where it is not refused, and returns its number.
 fn put_mapping(rows: &mut [u32], mapping: Mapping) -> u8
     requires { ⌜ length (now rows) ≡ 40 ⌝ }
-    ensures { λ r. ⌜ rowsCall r (now (rows .exit)) ≡ rowsLeave mapping (now (rows .entry)) ⌝ }
+    ensures { λ r. ⌜ asRowsReply r (now (rows .exit)) ≡ rowsLeave mapping (now (rows .entry)) ⌝ }
 {
     let number = mapping.number;
     if number == 0 {
@@ -180,7 +180,7 @@ fn put_mapping(rows: &mut [u32], mapping: Mapping) -> u8
 // The MMU rows: writes 5 rows of 8 numbers and returns number 0; or returns number 11 or 9.
 #[no_mangle]
 pub extern "C" fn boot_assist_rows(mode: u8, header: u8, rows: &mut [u32]) -> u8
-    ensures { λ r. ⌜ rowsCall r (now (rows .exit)) ≡ rowsAnswer mode header (now (rows .entry)) ⌝ }
+    ensures { λ r. ⌜ asRowsReply r (now (rows .exit)) ≡ rowsAnswer mode header (now (rows .entry)) ⌝ }
 {
     if rows.len() == 40 {
         if (mode <= 4) & (header <= 2) {

@@ -35,8 +35,8 @@ abbrev pub kbyte : ℕ
 kbyte = 1024
 
 -- a row; each is "Big Endian" and "Global PID"
-abbrev pub row : (logical physical size : ℕ) (inhibited guarded vle : Bool) → Row
-row logical physical size inhibited guarded vle =
+abbrev pub tableRow : (logical physical size : ℕ) (inhibited guarded vle : Bool) → Row
+tableRow logical physical size inhibited guarded vle =
     record {
       logical = logical;
       physical = physical;
@@ -51,11 +51,11 @@ row logical physical size inhibited guarded vle =
 -- Table 16-2, entries 0 to 4: peripheral bridge B and BAM, internal flash, EBI, internal SRAM, peripheral bridge A
 unfoldable pub internalRows : Bool → List Row
 internalRows vle =
-    row 0xFFF0_0000 0xFFF0_0000 (1 * mbyte) cacheInhibited isGuarded false
-    ∷ row 0x0000_0000 0x0000_0000 (16 * mbyte) cacheEnabled notGuarded vle
-    ∷ row 0x2000_0000 0x0000_0000 (16 * mbyte) cacheEnabled notGuarded vle
-    ∷ row 0x4000_0000 0x4000_0000 (256 * kbyte) cacheInhibited notGuarded vle
-    ∷ row 0xC3F0_0000 0xC3F0_0000 (1 * mbyte) cacheInhibited notGuarded false
+    tableRow 0xFFF0_0000 0xFFF0_0000 (1 * mbyte) cacheInhibited isGuarded false
+    ∷ tableRow 0x0000_0000 0x0000_0000 (16 * mbyte) cacheEnabled notGuarded vle
+    ∷ tableRow 0x2000_0000 0x0000_0000 (16 * mbyte) cacheEnabled notGuarded vle
+    ∷ tableRow 0x4000_0000 0x4000_0000 (256 * kbyte) cacheInhibited notGuarded vle
+    ∷ tableRow 0xC3F0_0000 0xC3F0_0000 (1 * mbyte) cacheInhibited notGuarded false
     ∷ []
 
 -- "number only"
@@ -72,6 +72,6 @@ hasExternalRows (Mode.Serial Entered.FromInternal) = false
 hasExternalRows (Mode.Serial Entered.FromExternal) = true
 
 -- "Asking for external boot rows gets number 11."
-unfoldable pub mapping : Mode → Header → Mapping
-mapping mode header =
+unfoldable pub mappingFor : Mode → Header → Mapping
+mappingFor mode header =
     cond (hasExternalRows mode) (record { number = 11; rows = noRows }) (record { number = 0; rows = internalRows (vleOf header) })

@@ -1,6 +1,6 @@
 // The MMU rows (01, "MMU rows"; 000, Table 16-2) of internal boot and of serial boot.
 ghost use mathlib.Core.Path.{_≡_};
-ghost use Rattle.mmu.specs.Rows.{vleOf, row, internalRows, hasExternalRows, mapping};
+ghost use Rattle.mmu.specs.Rows.{vleOf, tableRow, internalRows, hasExternalRows, mappingFor};
 use boot::Entered;
 use boot::Mode;
 
@@ -39,7 +39,7 @@ fn vle_of(header: Header) -> bool
 
 // A row of the table, whose attributes are all big endian and global PID.
 fn row_of(logical: u32, physical: u32, size: u32, inhibited: bool, guarded: bool, vle: bool) -> Row
-    ensures { λ r. ⌜ r ≡ row logical physical size inhibited guarded vle ⌝ }
+    ensures { λ r. ⌜ r ≡ tableRow logical physical size inhibited guarded vle ⌝ }
 {
     Row {
         logical: logical,
@@ -82,7 +82,7 @@ fn is_external(mode: Mode) -> bool
 
 // The MMU rows of a boot, for every input.
 pub fn rows(mode: Mode, header: Header) -> Mapping
-    ensures { λ r. ⌜ r ≡ mapping mode header ⌝ }
+    ensures { λ r. ⌜ r ≡ mappingFor mode header ⌝ }
 {
     if is_external(mode) {
         let none = Row {

@@ -8,7 +8,7 @@ use Rattle.boot.specs.declared.Answer.{Answer}
 use Rattle.boot.specs.declared.Boot.{Boot}
 use Rattle.boot.specs.declared.Entered.{Entered}
 use Rattle.boot.specs.declared.Mode.{Mode}
-use Rattle.boot.specs.Choosing.{choice}
+use Rattle.boot.specs.Choosing.{bootChoice}
 use Rattle.boot.specs.Places.{good}
 
 -- a case: what the rules give, and what 01 says that it is
@@ -17,8 +17,8 @@ pub record Case : Type 1 where
   pub given : Kind
   pub expected : Kind
 
-abbrev case : {Kind : Type 0} → Kind → Kind → Case
-case {Kind} given expected = record { Kind = Kind; given = given; expected = expected }
+abbrev trial : {Kind : Type 0} → Kind → Kind → Case
+trial {Kind} given expected = record { Kind = Kind; given = given; expected = expected }
 
 -- a flash that ends with the last place's 8 bytes: zeroes, and zeroes but for 0x5A as the second byte of one place
 abbrev blank : List ℕ
@@ -29,12 +29,12 @@ with5A place = replicate (place + 1) 0 ++ 0x5A ∷ replicate (0x30006 - place) 0
 
 -- internal boot of a flash, with a shadow row and an external head of zeroes
 abbrev internal : List ℕ → Answer
-internal flash = choice 0 flash (replicate 12 0) (replicate 8 0) .answer
+internal flash = bootChoice 0 flash (replicate 12 0) (replicate 8 0) .answer
 
 abbrev pub table : List Case
 table =
     -- P10 "5A only at 0x1C000: 4 places"
-    case (internal (with5A 0x1C000))
+    trial (internal (with5A 0x1C000))
     (Answer.Boots
     (record {
       mode = Mode.Internal;
@@ -47,7 +47,7 @@ table =
       nexus = false;
     }))
     -- P11 "none: 6, serial"
-    ∷ case (internal blank)
+    ∷ trial (internal blank)
     (Answer.Boots
     (record {
       mode = Mode.Serial Entered.FromInternal;
@@ -60,7 +60,7 @@ table =
       nexus = false;
     }))
     -- P12 "5A as first byte: not good"
-    ∷ case (good (0x5A ∷ replicate 7 0) 0) false
+    ∷ trial (good (0x5A ∷ replicate 7 0) 0) false
     ∷ []
 
 -- the claim: in every case the rules give what 01 says

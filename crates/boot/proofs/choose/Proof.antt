@@ -1,7 +1,7 @@
 -- `boot::choose` meets its contract: the sizes allowed, and not.
 use denote.Ref.{now}
 use borrow.Author.Needs.{needs}
-use Rattle.boot.specs.Choosing.{choice}
+use Rattle.boot.specs.Choosing.{bootChoice}
 use Rattle.boot.proofs.Count.{counted}
 use Rattle.boot.proofs.choose.Statement.{statement}
 use Rattle.boot.proofs.choose.Tie as tie
@@ -16,14 +16,14 @@ chosen-for-requires : tie.Need-chosen-for-requires
 chosen-for-requires c κs = search needs
 
 returns : tie.Need-returns
-unfolding choice
+unfolding bootChoice
 returns c =
     let a = c .before .before .before .before .before .before .before .args in
     counted (a .bootcfg) (now (a .flash)) (now (a .shadow)) (now (a .head))
     (rw (c .chosen-for .ensures, c .before .asked-by .ensures, ← c .before .before .before .is-allowed .ensures, c .before .before .if1 .taken))
 
 returns-2 : tie.Need-returns-2
-unfolding choice
+unfolding bootChoice
 returns-2 c =
     let a = c .before .before .before .before .before .args in
     counted (a .bootcfg) (now (a .flash)) (now (a .shadow)) (now (a .head))

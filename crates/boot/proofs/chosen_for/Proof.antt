@@ -33,7 +33,14 @@ settle-requires-2 c κs = search needs
 
 returns : tie.Need-returns
 unfolding chosen
-returns c = rw (c .settle .ensures, c .before .first-good .ensures, c .before .before .before .before .row-for .ensures, c .before .before .enum-told .given .1)
+returns c =
+    let told = c .before .before in
+    rw (
+      c .settle .ensures,
+      c .before .first-good .ensures,
+      told .before .before .row-for .ensures,
+      told .enum-told .given .1,
+    )
 
 returns-2 : tie.Need-returns-2
 unfolding chosen
@@ -41,7 +48,14 @@ returns-2 c = rw (c .serial-boot .ensures, c .before .before .before .row-for .e
 
 returns-3 : tie.Need-returns-3
 unfolding chosen
-returns-3 c = rw (c .settle2 .ensures, c .before .look-at-head .ensures, c .before .before .before .before .row-for .ensures, c .before .before .enum-told3 .given .1)
+returns-3 c =
+    let told = c .before .before in
+    rw (
+      c .settle2 .ensures,
+      c .before .look-at-head .ensures,
+      told .before .before .row-for .ensures,
+      told .enum-told3 .given .1,
+    )
 
 pub chosen-for-spec : {M : Type 1} → statement M
 chosen-for-spec =

@@ -1,6 +1,6 @@
 -- `boot::row_for` meets its contract: the row at the control that matters.
 use borrow.Author.Needs.{needs}
-use Rattle.boot.specs.Table.{row}
+use Rattle.boot.specs.Table.{rowFor}
 use Rattle.boot.proofs.row_for.Statement.{statement}
 use Rattle.boot.proofs.row_for.Tie as tie
 
@@ -11,7 +11,7 @@ row-of-requires : tie.Need-row-of-requires
 row-of-requires c κs = search needs
 
 returns : tie.Need-returns
-unfolding row
+unfolding rowFor
 returns c = rw (c .row-of .ensures, c .before .has-55aa .ensures)
 
 pub row-for-spec : {M : Type 1} → statement M

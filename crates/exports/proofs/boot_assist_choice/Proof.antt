@@ -22,8 +22,15 @@ same-length-2 c = search needs
 returns : tie.Need-returns
 unfolding choiceAnswer
 returns c =
-    let a = c .before .before .before .before .before .before .before .before .before .before .before .before .before .before .before .args in
-    rw (eq-eqb (length (now (a .fields))) 8 (c .before .before .before .before .before .before .before .before .before .if1 .taken), eq-eqb (length (now (a .password))) 8 (c .before .before .before .before .before .before .before .before .if2 .taken), c .before .before .before .before .put-choice .ensures, c .before .before .before .before .before .choose .ensures .0)
+    let put = c .before .before .before .before in
+    let tested = put .before .before .before .before in
+    let a = tested .before .before .before .before .before .before .before .args in
+    rw (
+      eq-eqb (length (now (a .fields))) 8 (tested .before .if1 .taken),
+      eq-eqb (length (now (a .password))) 8 (tested .if2 .taken),
+      put .put-choice .ensures,
+      put .before .choose .ensures .0,
+    )
 
 returns-2 : tie.Need-returns-2
 unfolding choiceAnswer

@@ -25,20 +25,25 @@ same-length c = search needs
 returns : tie.Need-returns
 unfolding rowsAnswer
 returns c =
-    let n = length (now (c .before .before .before .before .before .before .before .before .before .before .args .rows)) in
-    rw (eq-eqb n 40 (c .before .before .before .before .before .before .before .before .if1 .taken), c .before .before .before .before .before .before .before .if2 .taken, c .before .before .put-mapping .ensures, c .before .before .before .rows .ensures, c .before .before .before .before .header-of .ensures, c .before .before .before .before .before .mode-of .ensures)
+    let put = c .before .before in
+    let tested = put .before .before .before .before .before in
+    rw (
+      eq-eqb (length (now (tested .before .before .before .args .rows))) 40 (tested .before .if1 .taken),
+      tested .if2 .taken,
+      put .put-mapping .ensures,
+      put .before .rows .ensures,
+      put .before .before .header-of .ensures,
+      put .before .before .before .mode-of .ensures,
+    )
 
 returns-2 : tie.Need-returns-2
 unfolding rowsAnswer
 returns-2 c =
-    let n = length (now (c .before .before .before .args .rows)) in
-    rw (eq-eqb n 40 (c .before .if1 .taken), c .if2 .left)
+    rw (eq-eqb (length (now (c .before .before .before .args .rows))) 40 (c .before .if1 .taken), c .if2 .left)
 
 returns-3 : tie.Need-returns-3
 unfolding rowsAnswer
-returns-3 c =
-    let n = length (now (c .before .before .args .rows)) in
-    rw (ne-eqb n 40 (c .if1 .left))
+returns-3 c = rw (ne-eqb (length (now (c .before .before .args .rows))) 40 (c .if1 .left))
 
 pub boot-assist-rows-spec : {M : Type 1} → statement M
 boot-assist-rows-spec =

@@ -33,10 +33,13 @@ add-out c = omega arith
 mul-out-2 : tie.Need-mul-out-2 Inv-loop μ-loop
 mul-out-2 c = omega arith
 
+same : (c : tie.At-loop Inv-loop μ-loop) → length (c .loop .out) ≡ length (now (c .before .args .out))
+same c =
+    let a = c .before .args in
+    kept (now (a .out)) (a .at) (a .t3) (c .before .pre) (c .loop .inv .2) (c .loop .out) (c .loop .i) (c .loop .inv .1) (c .loop .inv .0)
+
 slice-write-out : tie.Need-slice-write-out Inv-loop μ-loop
-slice-write-out c =
-    let l = c .before .loop in
-    omega (arith, kept (now (c .before .before .args .out)) (c .before .before .args .at) (c .before .before .args .t3) (c .before .before .pre) (l .inv .2) (l .out) (l .i) (l .inv .1) (l .inv .0))
+slice-write-out c = omega (arith, same (c .before))
 
 add-i : tie.Need-add-i Inv-loop μ-loop
 add-i c = omega arith
@@ -46,18 +49,23 @@ loop-less c = omega arith
 
 loop-again : tie.Need-loop-again Inv-loop μ-loop
 loop-again c =
-    let l = c .before .loop in
-    (omega arith, turn (now (c .before .before .args .out)) (c .before .before .args .at) (c .before .before .args .t3) (c .before .before .pre) (l .inv .2) (l .out) (l .i) (l .inv .1) (c .loop-test .taken), l .inv .2)
+    let start = c .before .before in
+    let a = start .args in
+    let l = c .before .loop in (
+      omega arith,
+      turn (now (a .out)) (a .at) (a .t3) (start .pre) (l .inv .2) (l .out) (l .i) (l .inv .1) (c .loop-test .taken),
+      l .inv .2,
+    )
 
 same-length : tie.Need-same-length Inv-loop μ-loop
-same-length c =
-    let l = c .before .loop in
-    kept (now (c .before .before .args .out)) (c .before .before .args .at) (c .before .before .args .t3) (c .before .before .pre) (l .inv .2) (l .out) (l .i) (l .inv .1) (l .inv .0)
+same-length c = same (c .before)
 
 returns : tie.Need-returns Inv-loop μ-loop
 returns c =
+    let start = c .before .before in
+    let a = start .args in
     let l = c .before .loop in
-    done (now (c .before .before .args .out)) (c .before .before .args .at) (c .before .before .args .t3) (c .before .before .pre) (l .inv .2) (l .out) (l .i) (l .inv .1) (l .inv .0) (c .loop-test .left)
+    done (now (a .out)) (a .at) (a .t3) (start .pre) (l .inv .2) (l .out) (l .i) (l .inv .1) (l .inv .0) (c .loop-test .left)
 
 pub put-numbers-spec : {M : Type 1} → statement M
 put-numbers-spec =

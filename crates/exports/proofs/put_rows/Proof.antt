@@ -32,10 +32,16 @@ mul-put-numbers c = omega arith
 row-numbers-requires : tie.Need-row-numbers-requires Inv-loop μ-loop
 row-numbers-requires c κs = search needs
 
+same : (c : tie.At-loop Inv-loop μ-loop) → length (c .loop .out) ≡ length (now (c .before .before .args .out))
+same c =
+    let start = c .before .before in
+    let l = c .loop in
+    kept (now (start .args .out)) (start .args .t2) (l .i) (l .inv .2) (l .out) (l .inv .1) (l .inv .0) (start .pre)
+
 put-numbers-requires : tie.Need-put-numbers-requires Inv-loop μ-loop
 put-numbers-requires c κs =
-    let l = c .before .before .before .before .loop in
-    omega (arith, kept (now (c .before .before .before .before .before .before .args .out)) (c .before .before .before .before .before .before .args .t2) (c .before .before .before .before .loop .i) (c .before .before .before .before .loop .inv .2) (l .out) (l .inv .1) (l .inv .0) (c .before .before .before .before .before .before .pre), c .before .before .before .before .before .before .pre)
+    let head = c .before .before .before .before in
+    omega (arith, same head, head .before .before .pre)
 
 add-i : tie.Need-add-i Inv-loop μ-loop
 add-i c = omega arith
@@ -45,18 +51,23 @@ loop-less c = omega arith
 
 loop-again : tie.Need-loop-again Inv-loop μ-loop
 loop-again c =
-    let l = c .before .before .before .before .before .before .before .loop in
-    (omega arith, rw (c .before .before .put-numbers .ensures, c .before .before .before .row-numbers .ensures) (turn (now (c .before .before .before .before .before .before .before .before .before .args .out)) (c .before .before .before .before .before .before .before .before .before .args .t2) (c .before .before .before .before .before .before .before .loop .i) (c .before .before .before .before .before .before .before .loop .inv .2) _ (l .out) (l .inv .1) (c .before .before .before .before .before .before .loop-test .taken)), l .inv .2)
+    let body = c .before .before .before .before .before .before in
+    let l = body .before .loop in
+    let a = body .before .before .before .args in (
+      omega arith,
+      rw (c .before .before .put-numbers .ensures, c .before .before .before .row-numbers .ensures)
+          (turn (now (a .out)) (a .t2) (l .i) (l .inv .2) _ (l .out) (l .inv .1) (body .loop-test .taken)),
+      l .inv .2,
+    )
 
 same-length : tie.Need-same-length Inv-loop μ-loop
-same-length c =
-    let l = c .before .loop in
-    kept (now (c .before .before .before .args .out)) (c .before .before .before .args .t2) (c .before .loop .i) (c .before .loop .inv .2) (l .out) (l .inv .1) (l .inv .0) (c .before .before .before .pre)
+same-length c = same (c .before)
 
 returns : tie.Need-returns Inv-loop μ-loop
 returns c =
+    let start = c .before .before .before in
     let l = c .before .loop in
-    done (now (c .before .before .before .args .out)) (c .before .before .before .args .t2) (c .before .loop .i) (c .before .loop .inv .2) (l .out) (l .inv .1) (c .loop-test .left) (c .before .before .before .pre)
+    done (now (start .args .out)) (start .args .t2) (l .i) (l .inv .2) (l .out) (l .inv .1) (c .loop-test .left) (start .pre)
 
 pub put-rows-spec : {M : Type 1} → statement M
 put-rows-spec =

@@ -1,6 +1,6 @@
 -- `mmu::rows` meets its contract: the rows of external boot, and the others.
 use borrow.Author.Needs.{needs}
-use Rattle.mmu.specs.Rows.{mapping}
+use Rattle.mmu.specs.Rows.{mappingFor}
 use Rattle.mmu.proofs.rows.Statement.{statement}
 use Rattle.mmu.proofs.rows.Tie as tie
 
@@ -8,7 +8,7 @@ is-external-requires : tie.Need-is-external-requires
 is-external-requires c κs = search needs
 
 returns : tie.Need-returns
-unfolding mapping
+unfolding mappingFor
 returns c = rw (← c .before .is-external .ensures, c .if1 .taken)
 
 vle-of-requires : tie.Need-vle-of-requires
@@ -18,7 +18,7 @@ internal-rows-requires : tie.Need-internal-rows-requires
 internal-rows-requires c κs = search needs
 
 returns-2 : tie.Need-returns-2
-unfolding mapping
+unfolding mappingFor
 returns-2 c =
     rw (c .internal-rows .ensures, c .before .vle-of .ensures, ← c .before .before .before .is-external .ensures, c .before .before .if1 .left)
 
