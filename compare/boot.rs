@@ -374,7 +374,12 @@ impl Boot<'_> {
         } else {
             self.random.pick(&[0, 0, 0, 1, 2, 3])
         };
-        let good = self.random.byte() & ALL;
+        // Half of the time every place is good from some rank on, else each or not.
+        let good = if self.random.chance(2) {
+            ALL << self.random.below(7) & ALL
+        } else {
+            self.random.byte() & ALL
+        };
         let good_head = self.random.chance(2);
         let mut input = self.input(bootcfg, good, good_head);
         for block in &mut input.places {

@@ -1,0 +1,20 @@
+#!/bin/sh
+# Builds target/examples/choice (examples/choice.c over the proved library) and shows a boot choice with it.
+#     sh examples/choice.sh                              a made-up flash with a half word at 0x1C000
+#     sh examples/choice.sh BOOTCFG FLASH SHADOW HEAD    images of your own
+set -eu
+root=$(cd "$(dirname "$0")/.." && pwd)
+out=$root/target/examples
+mkdir -p "$out"
+(cd "$root" && rt staticlib exports) >"$out/staticlib.log" 2>&1 || { cat "$out/staticlib.log" >&2; exit 2; }
+cc -std=c11 -Wall -Wextra -Werror -O2 -I"$root/include" -o "$out/choice" "$root/examples/choice.c" "$root/target/staticlib/libexports.a"
+
+if [ $# -eq 0 ]; then
+    # zeroes up to 0x1C000; there watchdog and 16-bit bus, the boot identifier 5A, and the jump address 0x0001C010
+    { head -c 114688 /dev/zero; printf '\006\132\000\000\000\001\300\020'; } >"$out/flash.bin"
+    # the factory's shadow row: the password, censorship control 55AA, serial boot control 55AA
+    printf '\376\355\372\316\312\376\276\357\125\252\125\252' >"$out/shadow.bin"
+    head -c 8 /dev/zero >"$out/head.bin"
+    set -- 0 "$out/flash.bin" "$out/shadow.bin" "$out/head.bin"
+fi
+exec "$out/choice" "$@"
