@@ -1,10 +1,9 @@
 -- The walk at any list of places: what it does when the next place is good, when it is not, and when none is left.
-use Prim.Native.Nat.{ℕ, suc, _+_, _≤_, _<_}
-use native.Mathlib.Omega.{arith}
+use Prim.Native.Nat.{ℕ, _+_, _≤_, _<_}
 use native.Mathlib.Numerals.{add-one}
 use mathlib.Core.Path.{_≡_}
-use mathlib.Core.List.{List, [], _∷_}
-use mathlib.Core.Bool.{Bool, true, false, cond}
+use mathlib.Core.List.{List}
+use mathlib.Core.Bool.{true, false}
 use lib.ListN.{length, getD, drop, drop-of-length-le}
 use lib.Seq.{drop-cons}
 use Rattle.boot.specs.Places.{good, walk}
@@ -28,17 +27,3 @@ module _ (memory places : List ℕ) (i : ℕ) where
   pub walk-none : length places ≤ i → walk memory i (drop i places) ≡ record { found = false; place = 0; looked = i }
   unfolding walk
   walk-none h = rw drop-of-length-le
-
--- What holds of both holds of the one that a test picks.
-pub either : {A : Type 0} (P : A → Type 0) (test : Bool) {x y : A} → P x → P y → P (cond test x y)
-either P true p q = p
-either P false p q = q
-
--- No more places are looked at than there are.
-pub walk-counts : (memory : List ℕ) (looked : ℕ) (places : List ℕ) → walk memory looked places .looked ≤ looked + length places
-unfolding walk
-walk-counts memory looked [] = omega arith
-walk-counts memory looked (place ∷ places) =
-    either (λ (l : Look). l .looked ≤ looked + suc (length places)) (good memory place)
-    (omega arith)
-    (omega (arith, walk-counts memory (looked + 1) places))

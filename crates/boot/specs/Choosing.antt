@@ -13,22 +13,22 @@ use Rattle.boot.specs.declared.Row.{Row}
 use Rattle.boot.specs.declared.Boot.{Boot}
 use Rattle.boot.specs.declared.Answer.{Answer}
 use Rattle.boot.specs.declared.Choice.{Choice}
-use Rattle.boot.specs.Places.{flashPlaces, headPlaces, walk, watchdogAt, bus16At}
+use Rattle.boot.specs.Places.{flashPlaces, externalPlaces, walk, watchdogAt, bus16At}
 use Rattle.boot.specs.Table.{askedBy, rowFor}
 
 -- "BOOTCFG (0 to 3); the flash from address 0 (at most 2,097,152 bytes, any shorter length too); 12 shadow bytes ..; the first 8 bytes
 -- of external memory"
 abbrev pub allowed : ℕ → List ℕ → List ℕ → List ℕ → Bool
-allowed bootcfg flash shadow head =
-    leb bootcfg 3 && leb (length flash) 2097152 && eqb (length shadow) 12 && eqb (length head) 8
+allowed bootcfg flash shadow external =
+    leb bootcfg 3 && leb (length flash) 2097152 && eqb (length shadow) 12 && eqb (length external) 8
 
 -- number 9, "number only"
-abbrev pub refused : Choice
-refused = record { answer = Answer.Refused; password = replicate 8 0 }
+abbrev pub refusal : Choice
+refusal = record { answer = Answer.Refused; password = replicate 8 0 }
 
 -- from a good place: "the answer carries that place"; "The jump address is the word at place + 4."
-abbrev pub boots : Mode → List ℕ → Look → Row → Choice
-boots mode memory look row =
+abbrev pub bootFrom : Mode → List ℕ → Look → Row → Choice
+bootFrom mode memory look row =
     record {
       answer =
           Answer.Boots
@@ -46,8 +46,8 @@ boots mode memory look row =
     }
 
 -- "In a serial choice the place, jump address and both flags are 0."; "A fallback to serial keeps its row's flash, Nexus and password."
-abbrev pub serial : Entered → ℕ → Row → Choice
-serial entered looked row =
+abbrev pub serialBoot : Entered → ℕ → Row → Choice
+serialBoot entered looked row =
     record {
       answer =
           Answer.Boots
@@ -67,27 +67,27 @@ serial entered looked row =
 -- Internal: "With no good place: serial."; External: "bad means serial."
 unfoldable pub settled : Mode → Entered → List ℕ → Look → Row → Choice
 settled mode entered memory look row =
-    cond (look .found) (boots mode memory look row) (serial entered (look .looked) row)
+    cond (look .found) (bootFrom mode memory look row) (serialBoot entered (look .looked) row)
 
 -- Internal, External, and "BOOTCFG 1: serial, count 0"; how serial was entered decides its MMU rows (000, 16.3.2.3.1)
 unfoldable pub chosen : Asked → List ℕ → List ℕ → List ℕ → Choice
-chosen Asked.Internal flash shadow head =
+chosen Asked.Internal flash shadow external =
     settled Mode.Internal Entered.FromInternal flash (walk flash 0 flashPlaces) (rowFor Asked.Internal shadow)
-chosen Asked.External flash shadow head =
-    settled Mode.External Entered.FromExternal head (walk head 0 headPlaces) (rowFor Asked.External shadow)
-chosen Asked.Serial flash shadow head = serial Entered.Directly 0 (rowFor Asked.Serial shadow)
+chosen Asked.External flash shadow external =
+    settled Mode.External Entered.FromExternal external (walk external 0 externalPlaces) (rowFor Asked.External shadow)
+chosen Asked.Serial flash shadow external = serialBoot Entered.Directly 0 (rowFor Asked.Serial shadow)
 
 -- the answer of the call, for every input
 unfoldable pub bootChoice : ℕ → List ℕ → List ℕ → List ℕ → Choice
-bootChoice bootcfg flash shadow head =
-    cond (allowed bootcfg flash shadow head) (chosen (askedBy bootcfg) flash shadow head) refused
+bootChoice bootcfg flash shadow external =
+    cond (allowed bootcfg flash shadow external) (chosen (askedBy bootcfg) flash shadow external) refusal
 
--- the numbers of the answers (01, "What the head says back")
+-- the numbers of the answers (01, "What the external says back")
 abbrev pub numberOf : Answer → ℕ
 numberOf Answer.Refused = 9
 numberOf (Answer.Boots boot) = 0
 
--- the number of places looked at, 0 where the call was refused
+-- the number of places looked at, 0 where the call was refusal
 abbrev pub lookedOf : Answer → ℕ
 lookedOf Answer.Refused = 0
 lookedOf (Answer.Boots boot) = boot .looked

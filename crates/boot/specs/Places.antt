@@ -12,8 +12,8 @@ unfoldable pub flashPlaces : List ℕ
 flashPlaces = 0x0 ∷ 0x4000 ∷ 0x10000 ∷ 0x1C000 ∷ 0x20000 ∷ 0x30000 ∷ []
 
 -- "only the external head is looked at (.. place 0)"
-unfoldable pub headPlaces : List ℕ
-headPlaces = 0 ∷ []
+unfoldable pub externalPlaces : List ℕ
+externalPlaces = 0 ∷ []
 
 -- "A place is good if its 8 bytes lie in the flash handed in and its second byte is 0x5A."
 unfoldable pub good : List ℕ → ℕ → Bool

@@ -1,10 +1,10 @@
 // The boot choice (01, "Choosing how to boot"; 000, 16.3.2): from BOOTCFG, the flash, the shadow row and the first bytes of external
 // memory to how the head boots.
 ghost use mathlib.Core.Path.{_≡_};
-ghost use Prim.Native.Nat.{_≤_};
-ghost use Rattle.boot.specs.Places.{flashPlaces, headPlaces, good, walk, watchdogAt, bus16At};
+ghost use Rattle.boot.specs.Places.{flashPlaces, externalPlaces, good, walk};
 ghost use Rattle.boot.specs.Table.{askedBy, control55AA, rowOf, rowFor};
-ghost use Rattle.boot.specs.Choosing.{allowed, boots, serial, settled, chosen, bootChoice, lookedOf};
+ghost use Rattle.boot.specs.Choosing.{allowed, bootFrom, serialBoot, settled, chosen};
+ghost use Rattle.boot.specs.Claim.{ChoiceClaim};
 
 // What BOOTCFG asks for.
 pub enum Asked {
@@ -131,7 +131,7 @@ fn has_55aa(asked: Asked, shadow: &[u8]) -> bool
 fn row_of(asked: Asked, is_55aa: bool, shadow: &[u8]) -> Row
     ensures { λ r. ⌜ r ≡ rowOf asked «is_55aa» (now (shadow .entry)) ⌝ }
 {
-    let secret = octets::first_eight(shadow);
+    let flash_password = octets::first_eight(shadow);
     match asked {
         Asked::Internal => {
             if is_55aa {
@@ -144,7 +144,7 @@ fn row_of(asked: Asked, is_55aa: bool, shadow: &[u8]) -> Row
             Row {
                 flash: true,
                 nexus: false,
-                password: secret,
+                password: flash_password,
             }
         }
         Asked::Serial => {
@@ -152,7 +152,7 @@ fn row_of(asked: Asked, is_55aa: bool, shadow: &[u8]) -> Row
                 return Row {
                     flash: true,
                     nexus: false,
-                    password: secret,
+                    password: flash_password,
                 };
             }
             Row {
@@ -179,15 +179,15 @@ fn row_of(asked: Asked, is_55aa: bool, shadow: &[u8]) -> Row
 }
 
 // Whether the sizes of what is handed in are allowed.
-fn is_allowed(bootcfg: u8, flash: &[u8], shadow: &[u8], head: &[u8]) -> bool
-    ensures { λ r. ⌜ r ≡ allowed bootcfg (now (flash .entry)) (now (shadow .entry)) (now (head .entry)) ⌝ }
+fn is_allowed(bootcfg: u8, flash: &[u8], shadow: &[u8], external: &[u8]) -> bool
+    ensures { λ r. ⌜ r ≡ allowed bootcfg (now (flash .entry)) (now (shadow .entry)) (now (external .entry)) ⌝ }
 {
-    (bootcfg <= 3) & (flash.len() <= 2097152) & (shadow.len() == 12) & (head.len() == 8)
+    (bootcfg <= 3) & (flash.len() <= 2097152) & (shadow.len() == 12) & (external.len() == 8)
 }
 
 // The choice of a serial boot.
 fn serial_boot(entered: Entered, looked: u8, row: Row) -> Choice
-    ensures { λ r. ⌜ r ≡ serial entered looked row ⌝ }
+    ensures { λ r. ⌜ r ≡ serialBoot entered looked row ⌝ }
 {
     let boot = Boot {
         mode: Mode::Serial(entered),
@@ -208,7 +208,7 @@ fn serial_boot(entered: Entered, looked: u8, row: Row) -> Choice
 
 // The choice of a boot from a good place.
 fn boot_from(mode: Mode, memory: &[u8], look: Look, row: Row) -> Choice
-    ensures { λ r. ⌜ r ≡ boots mode (now (memory .entry)) look row ⌝ }
+    ensures { λ r. ⌜ r ≡ bootFrom mode (now (memory .entry)) look row ⌝ }
 {
     let at = look.place as usize;
     let first = octets::byte(memory, at);
@@ -246,20 +246,20 @@ fn row_for(asked: Asked, shadow: &[u8]) -> Row
     row_of(asked, has_55aa(asked, shadow), shadow)
 }
 
-// The walk over the external head's one place.
-fn look_at_head(head: &[u8]) -> Look
-    ensures { λ r. ⌜ r ≡ walk (now (head .entry)) 0 headPlaces ⌝ }
+// The walk over the one place of the external head.
+fn look_at_external(external: &[u8]) -> Look
+    ensures { λ r. ⌜ r ≡ walk (now (external .entry)) 0 externalPlaces ⌝ }
 {
     Look {
-        found: is_good(head, 0),
+        found: is_good(external, 0),
         place: 0,
         looked: 1,
     }
 }
 
 // How the head boots, once the sizes are allowed.
-fn chosen_for(asked: Asked, flash: &[u8], shadow: &[u8], head: &[u8]) -> Choice
-    ensures { λ r. ⌜ r ≡ chosen asked (now (flash .entry)) (now (shadow .entry)) (now (head .entry)) ⌝ }
+fn chosen_for(asked: Asked, flash: &[u8], shadow: &[u8], external: &[u8]) -> Choice
+    ensures { λ r. ⌜ r ≡ chosen asked (now (flash .entry)) (now (shadow .entry)) (now (external .entry)) ⌝ }
 {
     let row = row_for(asked, shadow);
     match asked {
@@ -274,20 +274,19 @@ fn chosen_for(asked: Asked, flash: &[u8], shadow: &[u8], head: &[u8]) -> Choice
         Asked::External => settle(
             Mode::External,
             Entered::FromExternal,
-            head,
-            look_at_head(head),
+            external,
+            look_at_external(external),
             row,
         ),
     }
 }
 
 // The boot choice, for every input.
-pub fn choose(bootcfg: u8, flash: &[u8], shadow: &[u8], head: &[u8]) -> Choice
-    ensures choice { λ r. ⌜ r ≡ bootChoice bootcfg (now (flash .entry)) (now (shadow .entry)) (now (head .entry)) ⌝ }
-    ensures at_most_six { λ r. ⌜ lookedOf (r .answer) ≤ 6 ⌝ }
+pub fn choose(bootcfg: u8, flash: &[u8], shadow: &[u8], external: &[u8]) -> Choice
+    ensures { λ r. ⌜ ChoiceClaim bootcfg (now (flash .entry)) (now (shadow .entry)) (now (external .entry)) r ⌝ }
 {
-    if is_allowed(bootcfg, flash, shadow, head) {
-        return chosen_for(asked_by(bootcfg), flash, shadow, head);
+    if is_allowed(bootcfg, flash, shadow, external) {
+        return chosen_for(asked_by(bootcfg), flash, shadow, external);
     }
     Choice {
         answer: Answer::Refused,

@@ -1,12 +1,12 @@
--- `boot::look_at_head` meets its contract: the walk over one place.
+-- `boot::look_at_external` meets its contract: the walk over one place.
 use mathlib.Core.Bool.{Bool, true, false, cond}
 use mathlib.Core.Path.{_≡_, refl}
 use denote.Ref.{now}
 use borrow.Author.Needs.{needs}
-use Rattle.boot.specs.Places.{good, walk, headPlaces}
+use Rattle.boot.specs.Places.{good, walk, externalPlaces}
 use Rattle.boot.specs.declared.Look.{Look}
-use Rattle.boot.proofs.look_at_head.Statement.{statement}
-use Rattle.boot.proofs.look_at_head.Tie as tie
+use Rattle.boot.proofs.look_at_external.Statement.{statement}
+use Rattle.boot.proofs.look_at_external.Tie as tie
 
 one
     : (good : Bool)
@@ -19,8 +19,8 @@ is-good-requires : tie.Need-is-good-requires
 is-good-requires c κs = search needs
 
 returns : tie.Need-returns
-unfolding walk headPlaces
-returns c = rw (c .is-good .ensures) (one (good (now (c .before .before .args .head)) 0))
+unfolding walk externalPlaces
+returns c = rw (c .is-good .ensures) (one (good (now (c .before .before .args .external)) 0))
 
-pub look-at-head-spec : {M : Type 1} → statement M
-look-at-head-spec = tie.close (tie.spec is-good-requires returns)
+pub look-at-external-spec : {M : Type 1} → statement M
+look-at-external-spec = tie.close (tie.spec is-good-requires returns)

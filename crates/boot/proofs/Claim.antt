@@ -1,0 +1,132 @@
+-- The claim of `boot::choose` follows from its equation.
+use Prim.Native.Nat.{ℕ, zero, suc, _+_, _-_, _≤_, _<_}
+use native.Mathlib.Omega.{arith}
+use mathlib.Core.Path.{_≡_, refl, ap, sym, subst, _∙_}
+use mathlib.Core.List.{List, [], _∷_}
+use mathlib.Core.Bool.{Bool, true, false, cond}
+use lib.ListN.{length, getD}
+use Rattle.boot.specs.declared.Asked.{Asked}
+use Rattle.boot.specs.declared.Choice.{Choice}
+use Rattle.boot.specs.declared.Entered.{Entered}
+use Rattle.boot.specs.declared.Look.{Look}
+use Rattle.boot.specs.declared.Mode.{Mode}
+use Rattle.boot.specs.declared.Row.{Row}
+use Rattle.boot.specs.Places.{flashPlaces, externalPlaces, good, walk}
+use Rattle.boot.specs.Table.{askedBy, rowFor}
+use Rattle.boot.specs.Choosing.{allowed, refusal, settled, chosen, bootChoice, numberOf, lookedOf}
+use Rattle.boot.specs.Claim.{ChoiceClaim, Ranked}
+
+-- What the walk over any places found, after n others: the first good place, or that none is good.
+abbrev Walked : List ℕ → List ℕ → ℕ → (found : Bool) → (place looked : ℕ) → Type 0
+Walked memory places n true place looked =
+    (k : ℕ)
+    × (looked ≡ n + k + 1)
+    × (k < length places)
+    × (place ≡ getD places k 0)
+    × (good memory place ≡ true)
+    × ((i : ℕ) → i < k → good memory (getD places i 0) ≡ false)
+Walked memory places n false place looked =
+    (looked ≡ n + length places) × ((i : ℕ) → i < length places → good memory (getD places i 0) ≡ false)
+
+-- one bad place in front
+also
+    : (memory : List ℕ) (p : ℕ) (places : List ℕ) (k : ℕ)
+    → good memory p ≡ false
+    → ((i : ℕ) → i < k → good memory (getD places i 0) ≡ false)
+    → (i : ℕ) → i < suc k → good memory (getD (p ∷ places) i 0) ≡ false
+also memory p places k e f zero h = e
+also memory p places k e f (suc i) h = f i (omega arith)
+
+more
+    : (memory : List ℕ) (p : ℕ) (places : List ℕ) (n : ℕ) (found : Bool) (place looked : ℕ)
+    → good memory p ≡ false
+    → Walked memory places (n + 1) found place looked
+    → Walked memory (p ∷ places) n found place looked
+more memory p places n true place looked e w =
+    (suc (w .0), omega arith, omega arith, w .3, w .4, also memory p places (w .0) e (w .5))
+more memory p places n false place looked e w =
+    (omega arith, also memory p places (length places) e (w .1))
+
+-- what the walk found, as one value
+abbrev Finds : List ℕ → List ℕ → ℕ → Look → Type 0
+Finds memory places n look = Walked memory places n (look .found) (look .place) (look .looked)
+
+step
+    : (memory : List ℕ) (p : ℕ) (places : List ℕ) (n : ℕ) (rest : Look) (test : Bool)
+    → good memory p ≡ test
+    → Finds memory places (n + 1) rest
+    → Finds memory (p ∷ places) n (cond test (record { found = true; place = p; looked = n + 1 }) rest)
+step memory p places n rest true e w = (0, omega arith, omega arith, refl, e, λ i h. absurd (omega arith))
+step memory p places n rest false e w = more memory p places n (rest .found) (rest .place) (rest .looked) e w
+
+finds : (memory : List ℕ) (n : ℕ) (places : List ℕ) → Finds memory places n (walk memory n places)
+unfolding walk
+finds memory n [] = (omega arith, λ i h. absurd (omega arith))
+finds memory n (p ∷ places) =
+    step memory p places n (walk memory (n + 1) places) (good memory p) refl (finds memory (n + 1) places)
+
+-- What a choice that is not refused claims.
+record Answered (flash : List ℕ) (c : Choice) : Type 0 where
+  number : numberOf (c .answer) ≡ 0
+  ranked : Ranked flash (c .answer)
+  at-most-six : lookedOf (c .answer) ≤ 6
+
+internal
+    : (flash : List ℕ) (row : Row) (found : Bool) (place looked : ℕ)
+    → Walked flash flashPlaces 0 found place looked
+    → Answered flash
+    (settled Mode.Internal Entered.FromInternal flash (record { found = found; place = place; looked = looked }) row)
+unfolding settled flashPlaces
+internal flash row true place looked w =
+    let rank : w .0 ≡ looked - 1 = omega arith in
+    record {
+      number = refl;
+      ranked =
+          record {
+            from-one = omega arith;
+            has-rank = w .3 ∙ ap (λ (k : ℕ). getD flashPlaces k 0) rank;
+            is-good = w .4;
+            none-before = λ i h. w .5 i (omega arith);
+          };
+      at-most-six = omega arith;
+    }
+internal flash row false place looked w = record { number = refl; ranked = (w .0, w .1); at-most-six = omega arith }
+
+external
+    : (flash memory : List ℕ) (row : Row) (found : Bool) (place looked : ℕ)
+    → Walked memory externalPlaces 0 found place looked
+    → Answered flash
+    (settled Mode.External Entered.FromExternal memory (record { found = found; place = place; looked = looked }) row)
+unfolding settled externalPlaces
+external flash memory row true place looked w =
+    record { number = refl; ranked = omega arith; at-most-six = omega arith }
+external flash memory row false place looked w =
+    record { number = refl; ranked = w .0; at-most-six = omega arith }
+
+answered : (asked : Asked) (flash shadow memory : List ℕ) → Answered flash (chosen asked flash shadow memory)
+unfolding chosen
+answered Asked.Internal flash shadow memory = internal flash (rowFor Asked.Internal shadow) _ _ _ (finds flash 0 flashPlaces)
+answered Asked.External flash shadow memory =
+    external flash memory (rowFor Asked.External shadow) _ _ _ (finds memory 0 externalPlaces)
+answered Asked.Serial flash shadow memory = record { number = refl; ranked = refl; at-most-six = omega arith }
+
+-- the claim's other fields, of the choice that a test of the sizes picks
+picked
+    : (flash : List ℕ) (test : Bool) (c : Choice)
+    → Answered flash c
+    → (numberOf (cond test c refusal .answer) ≡ cond test 0 9)
+    × Ranked flash (cond test c refusal .answer)
+    × (lookedOf (cond test c refusal .answer) ≤ 6)
+picked flash true c a = (a .number, a .ranked, a .at-most-six)
+picked flash false c a = (refl, tt, omega arith)
+
+pub claimed
+    : (bootcfg : ℕ) (flash shadow external : List ℕ) {r : Choice}
+    → r ≡ bootChoice bootcfg flash shadow external
+    → ChoiceClaim bootcfg flash shadow external r
+unfolding bootChoice
+claimed bootcfg flash shadow external {r} e =
+    let c = chosen (askedBy bootcfg) flash shadow external in
+    let p = picked flash (allowed bootcfg flash shadow external) c (answered (askedBy bootcfg) flash shadow external) in
+    subst (λ (x : Choice). ChoiceClaim bootcfg flash shadow external x) (sym e)
+    (record { equation = refl; number = p .0; ranked = p .1; at-most-six = p .2 })
