@@ -529,12 +529,13 @@ fn expected_choice(input: &Input, flash: &[u8]) -> Result<Choice, u8> {
     choose(input.bootcfg, flash, &input.shadow, &input.head)
 }
 
-/// As `expected_choice`, for the rows.
+/// As `expected_choice`, for the rows. External rows are refused whatever the header
+/// and the length.
 fn expected_rows(mode: u8, header: u8, rows_len: usize) -> Result<[Row; 5], u8> {
-    let mode = MODES.get(usize::from(mode));
-    let header = HEADERS.get(usize::from(header));
-    match (mode, header) {
-        (Some(&mode), Some(&header)) if rows_len == ROWS => rows(mode, header),
+    let &mode = MODES.get(usize::from(mode)).ok_or(9)?;
+    rows(mode, Header::NotAccepted)?;
+    match HEADERS.get(usize::from(header)) {
+        Some(&header) if rows_len == ROWS => rows(mode, header),
         _ => Err(9),
     }
 }

@@ -1,3 +1,2 @@
 pub mod Copy
 pub mod Rows
-pub mod Modes

@@ -7,13 +7,13 @@ use mathlib.Core.List.{List, [], _∷_, _++_, append-assoc, append-nil}
 use lib.ListN.{length, getD, take, drop, length-append, length-drop, drop-of-length-le}
 use lib.Seq.{paste, take-at, drop-append-add, drop-drop, length-take-le, take-all, take-suc}
 use Rattle.mmu.specs.declared.Row.{Row}
-use Rattle.exports.specs.Numbers.{rowNumbers, rowsNumbers}
+use Rattle.exports.specs.Numbers.{rowNumbers, tableNumbers}
 
-rows-length : (rows : List Row) → length (rowsNumbers rows) ≡ 8 * length rows
+rows-length : (rows : List Row) → length (tableNumbers rows) ≡ 8 * length rows
 rows-length [] = refl
 rows-length (row ∷ rows) = omega (arith, rows-length rows)
 
-rows-append : (xs ys : List Row) → rowsNumbers (xs ++ ys) ≡ rowsNumbers xs ++ rowsNumbers ys
+rows-append : (xs ys : List Row) → tableNumbers (xs ++ ys) ≡ tableNumbers xs ++ tableNumbers ys
 rows-append [] ys = refl
 rows-append (x ∷ xs) ys = rw (rows-append xs ys)
 
@@ -24,14 +24,14 @@ behind p q r n k e f = rw (take-at p q n e, take-all k r (omega arith), ← e, d
 module _ (out₀ : List ℕ) (rows : List Row) (i : ℕ) (five : length rows ≡ 5) where
   -- the invariant: the numbers of the first i rows, and behind them what the output had there
   abbrev pub Written : List ℕ → Type 0
-  Written out = out ≡ rowsNumbers (take i rows) ++ drop (8 * i) out₀
+  Written out = out ≡ tableNumbers (take i rows) ++ drop (8 * i) out₀
 
-  written-length : i ≤ 5 → length (rowsNumbers (take i rows)) ≡ 8 * i
+  written-length : i ≤ 5 → length (tableNumbers (take i rows)) ≡ 8 * i
   written-length h =
       let n : i ≤ length rows = omega arith in
       rows-length (take i rows) ∙ ap (λ (k : ℕ). 8 * k) (length-take-le i rows n)
 
-  one-more : (d : Row) → i < 5 → rowsNumbers (take i rows) ++ rowNumbers (getD rows i d) ≡ rowsNumbers (take (i + 1) rows)
+  one-more : (d : Row) → i < 5 → tableNumbers (take i rows) ++ rowNumbers (getD rows i d) ≡ tableNumbers (take (i + 1) rows)
   one-more d h =
       let n : i < length rows = omega arith in
       rw (add-one, take-suc rows i d n, rows-append)
@@ -40,18 +40,18 @@ module _ (out₀ : List ℕ) (rows : List Row) (i : ℕ) (five : length rows ≡
       : (d : Row) (out : List ℕ)
       → Written out
       → i < 5
-      → paste out (8 * i) (rowNumbers (getD rows i d)) 8 ≡ rowsNumbers (take (i + 1) rows) ++ drop (8 * (i + 1)) out₀
+      → paste out (8 * i) (rowNumbers (getD rows i d)) 8 ≡ tableNumbers (take (i + 1) rows) ++ drop (8 * (i + 1)) out₀
   turn d out e h =
       let n : 8 * i + 8 ≡ 8 * (i + 1) = omega arith in
       ap (λ (l : List ℕ). paste l (8 * i) (rowNumbers (getD rows i d)) 8) e
-      ∙ behind (rowsNumbers (take i rows)) (drop (8 * i) out₀) (rowNumbers (getD rows i d)) (8 * i) 8 (written-length (omega arith)) refl
+      ∙ behind (tableNumbers (take i rows)) (drop (8 * i) out₀) (rowNumbers (getD rows i d)) (8 * i) 8 (written-length (omega arith)) refl
       ∙ ap (λ (l : List ℕ). l ++ drop 8 (drop (8 * i) out₀)) (one-more d h)
-      ∙ ap (λ (l : List ℕ). rowsNumbers (take (i + 1) rows) ++ l) (drop-drop 8 (8 * i) out₀ ∙ ap (λ (k : ℕ). drop k out₀) n)
+      ∙ ap (λ (l : List ℕ). tableNumbers (take (i + 1) rows) ++ l) (drop-drop 8 (8 * i) out₀ ∙ ap (λ (k : ℕ). drop k out₀) n)
 
   pub kept : (out : List ℕ) → Written out → i ≤ 5 → length out₀ ≡ 40 → length out ≡ length out₀
   kept out e h long = rw (e, length-append, length-drop) (omega (arith, written-length h))
 
-  pub done : (out : List ℕ) → Written out → 5 ≤ i → length out₀ ≡ 40 → out ≡ rowsNumbers rows
+  pub done : (out : List ℕ) → Written out → 5 ≤ i → length out₀ ≡ 40 → out ≡ tableNumbers rows
   done out e h long =
       let m : length rows ≤ i = omega arith in
       let n : length out₀ ≤ 8 * i = omega arith in

@@ -9,7 +9,7 @@ use Rattle.boot.specs.declared.Choice.{Choice}
 use Rattle.boot.specs.Choosing.{bootChoice, numberOf}
 use Rattle.mmu.specs.declared.Mapping.{Mapping}
 use Rattle.mmu.specs.Rows.{mappingFor}
-use Rattle.exports.specs.Numbers.{modeOf, headerOf, bootNumbers, rowsNumbers}
+use Rattle.exports.specs.Numbers.{modeOf, headerOf, bootNumbers, tableNumbers}
 
 -- a call as C sees it: its number, and the outputs as it leaves them
 pub record ChoiceReply : Type 0 where
@@ -43,19 +43,19 @@ choiceLeaves choice fields password =
 
 -- 8 numbers and 8 password bytes are written; outputs of another length get number 9
 unfoldable pub choiceAnswer : ℕ → List ℕ → List ℕ → List ℕ → List ℕ → List ℕ → ChoiceReply
-choiceAnswer bootcfg flash shadow head fields password =
+choiceAnswer bootcfg flash shadow external fields password =
     cond (eqb (length fields) 8 && eqb (length password) 8)
-    (choiceLeaves (bootChoice bootcfg flash shadow head) fields password)
+    (choiceLeaves (bootChoice bootcfg flash shadow external) fields password)
     (asChoiceReply 9 fields password)
 
--- a mapping in an output of the right length
-abbrev pub rowsLeave : Mapping → List ℕ → RowsReply
-rowsLeave mapping rows =
-    asRowsReply (mapping .number) (cond (eqb (mapping .number) 0) (rowsNumbers (mapping .rows)) rows)
+-- what a mapping leaves: rows of external boot get their own number; else a header above 2 or an output of another length gets number 9
+abbrev pub rowsLeave : Mapping → ℕ → List ℕ → RowsReply
+rowsLeave mapping header rows =
+    cond (eqb (mapping .number) 0)
+    (cond (leb header 2 && eqb (length rows) 40) (asRowsReply 0 (tableNumbers (mapping .rows))) (asRowsReply 9 rows))
+    (asRowsReply (mapping .number) rows)
 
--- 5 rows of 8 numbers are written; an output of another length, a mode above 4 or a header above 2 gets number 9
+-- 5 rows of 8 numbers are written; a mode above 4 gets number 9
 unfoldable pub rowsAnswer : ℕ → ℕ → List ℕ → RowsReply
 rowsAnswer mode header rows =
-    cond (eqb (length rows) 40 && (leb mode 4 && leb header 2))
-    (rowsLeave (mappingFor (modeOf mode) (headerOf header)) rows)
-    (asRowsReply 9 rows)
+    cond (leb mode 4) (rowsLeave (mappingFor (modeOf mode) (headerOf header)) header rows) (asRowsReply 9 rows)

@@ -21,7 +21,7 @@ modeNumber (Mode.Serial Entered.Directly) = 2
 modeNumber (Mode.Serial Entered.FromInternal) = 3
 modeNumber (Mode.Serial Entered.FromExternal) = 4
 
--- and back, for the numbers from 0 to 4
+-- and back: of the numbers from 0 to 4, the one whose number it is (`exports::mode_number` promises that)
 abbrev pub modeOf : ℕ → Mode
 modeOf number =
     cond (eqb number 0) Mode.Internal
@@ -61,6 +61,6 @@ rowNumbers row =
     ∷ []
 
 -- the rows, one after the other
-abbrev pub rowsNumbers : List Row → List ℕ
-rowsNumbers [] = []
-rowsNumbers (row ∷ rows) = rowNumbers row ++ rowsNumbers rows
+abbrev pub tableNumbers : List Row → List ℕ
+tableNumbers [] = []
+tableNumbers (row ∷ rows) = rowNumbers row ++ tableNumbers rows

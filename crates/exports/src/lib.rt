@@ -3,7 +3,7 @@ ghost use mathlib.Core.Path.{_≡_};
 ghost use Prim.Native.Nat.{_+_, _≤_};
 ghost use lib.ListN.{length};
 ghost use lib.Seq.{paste};
-ghost use Rattle.exports.specs.Numbers.{bit, modeNumber, modeOf, headerOf, bootNumbers, rowNumbers, rowsNumbers};
+ghost use Rattle.exports.specs.Numbers.{bit, modeNumber, modeOf, headerOf, bootNumbers, rowNumbers, tableNumbers};
 ghost use Rattle.exports.specs.Calls.{asChoiceReply, choiceLeaves, choiceAnswer, asRowsReply, rowsLeave, rowsAnswer};
 use boot::Answer;
 use boot::Boot;
@@ -24,9 +24,9 @@ fn bit_of(flag: bool) -> u32
     0
 }
 
-// The number of a way to boot.
-fn number_of(mode: Mode) -> u32
-    ensures { λ r. ⌜ r ≡ modeNumber mode ⌝ }
+// The number of a way to boot, which `mode_of` reads as that way.
+fn mode_number(mode: Mode) -> u32
+    ensures { λ r. ⌜ (r ≡ modeNumber mode) × (modeOf r ≡ mode) ⌝ }
 {
     match mode {
         Mode::Internal => 0,
@@ -68,7 +68,7 @@ fn boot_numbers(boot: Boot) -> [u32; 8]
 {
     let mode = boot.mode;
     [
-        number_of(mode),
+        mode_number(mode),
         boot.place,
         boot.looked as u32,
         boot.jump,
@@ -118,7 +118,7 @@ fn put_bytes(out: &mut [u8], at: usize, bytes: [u8; 8])
 // Writes the numbers of five rows.
 fn put_rows(out: &mut [u32], rows: [Row; 5])
     requires { ⌜ length (now out) ≡ 40 ⌝ }
-    ensures { λ _. ⌜ now (out .exit) ≡ rowsNumbers rows ⌝ }
+    ensures { λ _. ⌜ now (out .exit) ≡ tableNumbers rows ⌝ }
 {
     for i in 0..5 {
         let row = rows[i];
@@ -147,34 +147,41 @@ pub extern "C" fn boot_assist_choice(
     bootcfg: u8,
     flash: &[u8],
     shadow: &[u8],
-    head: &[u8],
+    external: &[u8],
     fields: &mut [u32],
     password: &mut [u8],
 ) -> u8
     ensures { λ r. ⌜
         asChoiceReply r (now (fields .exit)) (now (password .exit))
-        ≡ choiceAnswer bootcfg (now (flash .entry)) (now (shadow .entry)) (now (head .entry)) (now (fields .entry)) (now (password .entry))
+        ≡ choiceAnswer bootcfg (now (flash .entry)) (now (shadow .entry)) (now (external .entry)) (now (fields .entry)) (now (password .entry))
         ⌝ }
 {
     if fields.len() == 8 {
         if password.len() == 8 {
-            return put_choice(fields, password, boot::choose(bootcfg, flash, shadow, head));
+            return put_choice(
+                fields,
+                password,
+                boot::choose(bootcfg, flash, shadow, external),
+            );
         }
     }
     9
 }
 
-// Writes a mapping, where it is not refused, and returns its number.
-fn put_mapping(rows: &mut [u32], mapping: Mapping) -> u8
-    requires { ⌜ length (now rows) ≡ 40 ⌝ }
-    ensures { λ r. ⌜ asRowsReply r (now (rows .exit)) ≡ rowsLeave mapping (now (rows .entry)) ⌝ }
+// Writes a mapping, where it is not refused and the header and the output's length are right, and returns the number.
+fn put_mapping(rows: &mut [u32], header: u8, mapping: Mapping) -> u8
+    ensures { λ r. ⌜ asRowsReply r (now (rows .exit)) ≡ rowsLeave mapping header (now (rows .entry)) ⌝ }
 {
     let number = mapping.number;
-    if number == 0 {
+    if number != 0 {
+        return number;
+    }
+    if (header <= 2) & (rows.len() == 40) {
         let found = mapping.rows;
         put_rows(rows, found);
+        return 0;
     }
-    number
+    9
 }
 
 // The MMU rows: writes 5 rows of 8 numbers and returns number 0; or returns number 11 or 9.
@@ -182,10 +189,8 @@ fn put_mapping(rows: &mut [u32], mapping: Mapping) -> u8
 pub extern "C" fn boot_assist_rows(mode: u8, header: u8, rows: &mut [u32]) -> u8
     ensures { λ r. ⌜ asRowsReply r (now (rows .exit)) ≡ rowsAnswer mode header (now (rows .entry)) ⌝ }
 {
-    if rows.len() == 40 {
-        if (mode <= 4) & (header <= 2) {
-            return put_mapping(rows, mmu::rows(mode_of(mode), header_of(header)));
-        }
+    if mode <= 4 {
+        return put_mapping(rows, header, mmu::rows(mode_of(mode), header_of(header)));
     }
     9
 }

@@ -10,6 +10,7 @@ use Rattle.mmu.specs.declared.Row.{Row}
 use Rattle.mmu.specs.declared.Mapping.{Mapping}
 
 -- "An accepted header with VLE 1 sets VLE on entries 1 to 3; with 0 it clears it; where no header was accepted it is clear."
+-- (003, 21.5.5.4, step 2: "The VLE mode bit instructs the device to program MMU entries 1-3 with VLE attribute.")
 abbrev pub vleOf : Header → Bool
 vleOf Header.NotAccepted = false
 vleOf (Header.Accepted vle) = vle
@@ -21,13 +22,16 @@ cacheInhibited = true
 abbrev pub cacheEnabled : Bool
 cacheEnabled = false
 
-abbrev pub isGuarded : Bool
-isGuarded = true
+abbrev pub guarded : Bool
+guarded = true
 
 abbrev pub notGuarded : Bool
 notGuarded = false
 
--- "1 Mbyte" and "1 Kbyte"
+abbrev pub noVle : Bool
+noVle = false
+
+-- "Mbyte" and "Kbytes"
 abbrev pub mbyte : ℕ
 mbyte = 1024 * 1024
 
@@ -35,14 +39,14 @@ abbrev pub kbyte : ℕ
 kbyte = 1024
 
 -- a row; each is "Big Endian" and "Global PID"
-abbrev pub tableRow : (logical physical size : ℕ) (inhibited guarded vle : Bool) → Row
-tableRow logical physical size inhibited guarded vle =
+abbrev pub tableRow : (logical physical size : ℕ) (cache guard vle : Bool) → Row
+tableRow logical physical size cache guard vle =
     record {
       logical = logical;
       physical = physical;
       size = size;
-      inhibited = inhibited;
-      guarded = guarded;
+      inhibited = cache;
+      guarded = guard;
       bigendian = true;
       global = true;
       vle = vle;
@@ -51,19 +55,20 @@ tableRow logical physical size inhibited guarded vle =
 -- Table 16-2, entries 0 to 4: peripheral bridge B and BAM, internal flash, EBI, internal SRAM, peripheral bridge A
 unfoldable pub internalRows : Bool → List Row
 internalRows vle =
-    tableRow 0xFFF0_0000 0xFFF0_0000 (1 * mbyte) cacheInhibited isGuarded false
+    tableRow 0xFFF0_0000 0xFFF0_0000 (1 * mbyte) cacheInhibited guarded noVle
     ∷ tableRow 0x0000_0000 0x0000_0000 (16 * mbyte) cacheEnabled notGuarded vle
     ∷ tableRow 0x2000_0000 0x0000_0000 (16 * mbyte) cacheEnabled notGuarded vle
     ∷ tableRow 0x4000_0000 0x4000_0000 (256 * kbyte) cacheInhibited notGuarded vle
-    ∷ tableRow 0xC3F0_0000 0xC3F0_0000 (1 * mbyte) cacheInhibited notGuarded false
+    ∷ tableRow 0xC3F0_0000 0xC3F0_0000 (1 * mbyte) cacheInhibited notGuarded noVle
     ∷ []
 
 -- "number only"
 abbrev pub noRows : List Row
 noRows = replicate 5 (record { logical = 0; physical = 0; size = 0; inhibited = false; guarded = false; bigendian = false; global = false; vle = false })
 
--- "serial boot mode is entered directly .., or .. indirectly from internal boot mode ..: the MMU is configured the same way as for internal
--- boot mode"; from external: "the same way as for one of the external boot modes" (000, 16.3.2.3.1)
+-- Which boots have the rows of external boot (000, 16.3.2.3.1). Serial boot "entered directly .., or .. indirectly from internal boot
+-- mode": "the MMU is configured the same way as for internal boot mode". Entered "indirectly from either external boot ..": "the MMU and
+-- EBI are configured the same way as for one of the external boot modes".
 abbrev pub hasExternalRows : Mode → Bool
 hasExternalRows Mode.Internal = false
 hasExternalRows Mode.External = true

@@ -7,10 +7,10 @@ ghost use Rattle.octets.specs.Read.{byteAt, halfAt, wordAt, firstEight};
 pub fn byte(s: &[u8], at: usize) -> u8
     ensures { λ r. ⌜ r ≡ byteAt (now (s .entry)) at ⌝ }
 {
-    if at < s.len() {
-        return s[at];
+    if s.len() <= at {
+        return 0;
     }
-    0
+    s[at]
 }
 
 // The number that two bytes are, the higher first.

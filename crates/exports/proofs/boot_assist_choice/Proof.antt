@@ -29,7 +29,7 @@ returns c =
       eq-eqb (length (now (a .fields))) 8 (tested .before .if1 .taken),
       eq-eqb (length (now (a .password))) 8 (tested .if2 .taken),
       put .put-choice .ensures,
-      put .before .choose .ensures .0,
+      put .before .choose .ensures .equation,
     )
 
 returns-2 : tie.Need-returns-2

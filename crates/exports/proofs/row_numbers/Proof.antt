@@ -19,7 +19,14 @@ bit-of-requires-5 : tie.Need-bit-of-requires-5
 bit-of-requires-5 c κs = search needs
 
 returns : tie.Need-returns
-returns c = cc
+returns c =
+    rw (
+      c .before .before .before .before .bit-of .ensures,
+      c .before .before .before .bit-of2 .ensures,
+      c .before .before .bit-of3 .ensures,
+      c .before .bit-of4 .ensures,
+      c .bit-of5 .ensures,
+    )
 
 pub row-numbers-spec : {M : Type 1} → statement M
 row-numbers-spec =

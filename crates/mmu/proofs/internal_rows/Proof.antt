@@ -21,7 +21,14 @@ row-of-requires-5 c κs = search needs
 
 returns : tie.Need-returns
 unfolding internalRows
-returns c = cc
+returns c =
+    rw (
+      c .before .before .before .before .row-of .ensures,
+      c .before .before .before .row-of2 .ensures,
+      c .before .before .row-of3 .ensures,
+      c .before .row-of4 .ensures,
+      c .row-of5 .ensures,
+    )
 
 pub internal-rows-spec : {M : Type 1} → statement M
 internal-rows-spec =

@@ -6,14 +6,14 @@ use Rattle.octets.proofs.Past.{byte-past}
 use Rattle.octets.proofs.byte.Statement.{statement}
 use Rattle.octets.proofs.byte.Tie as tie
 
+returns : tie.Need-returns
+returns c = sym (byte-past (now (c .before .args .s)) (c .before .args .at) (c .if1 .taken))
+
 shared-slice-read-result : tie.Need-shared-slice-read-result
 shared-slice-read-result c = search needs
 
-returns : tie.Need-returns
-returns c = search needs
-
 returns-2 : tie.Need-returns-2
-returns-2 c = sym (byte-past (now (c .before .args .s)) (c .before .args .at) (c .if1 .left))
+returns-2 c = search needs
 
 pub byte-spec : {M : Type 1} → statement M
-byte-spec = tie.close (tie.spec shared-slice-read-result returns returns-2)
+byte-spec = tie.close (tie.spec returns shared-slice-read-result returns-2)

@@ -28,7 +28,17 @@ byte-requires-8 : tie.Need-byte-requires-8
 byte-requires-8 c κs = search needs
 
 returns : tie.Need-returns
-returns c = cc
+returns c =
+    rw (
+      c .before .before .before .before .before .before .before .byte .ensures,
+      c .before .before .before .before .before .before .byte2 .ensures,
+      c .before .before .before .before .before .byte3 .ensures,
+      c .before .before .before .before .byte4 .ensures,
+      c .before .before .before .byte5 .ensures,
+      c .before .before .byte6 .ensures,
+      c .before .byte7 .ensures,
+      c .byte8 .ensures,
+    )
 
 pub first-eight-spec : {M : Type 1} → statement M
 first-eight-spec =
