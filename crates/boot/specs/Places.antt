@@ -11,7 +11,7 @@ use Rattle.boot.specs.declared.Look.{Look}
 unfoldable pub flashPlaces : List ℕ
 flashPlaces = 0x0 ∷ 0x4000 ∷ 0x10000 ∷ 0x1C000 ∷ 0x20000 ∷ 0x30000 ∷ []
 
--- "only the external head is looked at (.. place 0)"
+-- "External: only the external head is looked at (count 1, place 0), by the same test": its one place
 unfoldable pub externalPlaces : List ℕ
 externalPlaces = 0 ∷ []
 
@@ -19,8 +19,8 @@ externalPlaces = 0 ∷ []
 unfoldable pub good : List ℕ → ℕ → Bool
 good memory place = leb (place + 8) (length memory) && eqb (byteAt memory (place + 1)) 0x5A
 
--- "The walk ends at the first good place; the answer carries that place and the number of places looked at": the places that are left,
--- after as many as `looked`.
+-- "The walk ends at the first good place; the answer carries that place and the number of places looked at, which equals the place's
+-- rank from 1, or 6 if none is good." The walk over the places that are left, after as many as `looked`.
 unfoldable pub walk : List ℕ → ℕ → List ℕ → Look
 walk memory looked [] = record { found = false; place = 0; looked = looked }
 walk memory looked (place ∷ places) =
@@ -28,7 +28,8 @@ walk memory looked (place ∷ places) =
     (record { found = true; place = place; looked = looked + 1 })
     (walk memory (looked + 1) places)
 
--- "In the first byte of the half word, 0x04 is the watchdog enable and 0x02 the 16-bit external bus."
+-- "In the first byte of the half word, 0x04 is the watchdog enable and 0x02 the 16-bit external bus. Its other bits change
+-- nothing."
 abbrev pub watchdogAt : List ℕ → ℕ → Bool
 watchdogAt memory place = eqb (byteAt memory place / 4 % 2) 1
 

@@ -52,19 +52,35 @@ tableRow logical physical size cache guard vle =
       vle = vle;
     }
 
--- Table 16-2, entries 0 to 4: peripheral bridge B and BAM, internal flash, EBI, internal SRAM, peripheral bridge A
+-- Table 16-2
 unfoldable pub internalRows : Bool → List Row
 internalRows vle =
+    -- 0, peripheral bridge B and BAM
     tableRow 0xFFF0_0000 0xFFF0_0000 (1 * mbyte) cacheInhibited guarded noVle
+    -- 1, internal flash
     ∷ tableRow 0x0000_0000 0x0000_0000 (16 * mbyte) cacheEnabled notGuarded vle
+    -- 2, EBI
     ∷ tableRow 0x2000_0000 0x0000_0000 (16 * mbyte) cacheEnabled notGuarded vle
+    -- 3, internal SRAM
     ∷ tableRow 0x4000_0000 0x4000_0000 (256 * kbyte) cacheInhibited notGuarded vle
+    -- 4, peripheral bridge A
     ∷ tableRow 0xC3F0_0000 0xC3F0_0000 (1 * mbyte) cacheInhibited notGuarded noVle
     ∷ []
 
 -- "number only"
 abbrev pub noRows : List Row
-noRows = replicate 5 (record { logical = 0; physical = 0; size = 0; inhibited = false; guarded = false; bigendian = false; global = false; vle = false })
+noRows =
+    replicate 5
+    (record {
+      logical = 0;
+      physical = 0;
+      size = 0;
+      inhibited = false;
+      guarded = false;
+      bigendian = false;
+      global = false;
+      vle = false;
+    })
 
 -- Which boots have the rows of external boot (000, 16.3.2.3.1). Serial boot "entered directly .., or .. indirectly from internal boot
 -- mode": "the MMU is configured the same way as for internal boot mode". Entered "indirectly from either external boot ..": "the MMU and
@@ -79,4 +95,6 @@ hasExternalRows (Mode.Serial Entered.FromExternal) = true
 -- "Asking for external boot rows gets number 11."
 unfoldable pub mappingFor : Mode → Header → Mapping
 mappingFor mode header =
-    cond (hasExternalRows mode) (record { number = 11; rows = noRows }) (record { number = 0; rows = internalRows (vleOf header) })
+    cond (hasExternalRows mode)
+    (record { number = 11; rows = noRows })
+    (record { number = 0; rows = internalRows (vleOf header) })

@@ -28,13 +28,13 @@ abbrev with5A : ℕ → List ℕ
 with5A place = replicate (place + 1) 0 ++ 0x5A ∷ replicate (0x30006 - place) 0
 
 -- internal boot of a flash, with a shadow row and an external head of zeroes
-abbrev internal : List ℕ → Answer
-internal flash = bootChoice 0 flash (replicate 12 0) (replicate 8 0) .answer
+abbrev internalBoot : List ℕ → Answer
+internalBoot flash = bootChoice 0 flash (replicate 12 0) (replicate 8 0) .answer
 
 abbrev pub table : List Case
 table =
     -- P10 "5A only at 0x1C000: 4 places"
-    trial (internal (with5A 0x1C000))
+    trial (internalBoot (with5A 0x1C000))
     (Answer.Boots
     (record {
       mode = Mode.Internal;
@@ -47,7 +47,7 @@ table =
       nexus = false;
     }))
     -- P11 "none: 6, serial"
-    ∷ trial (internal blank)
+    ∷ trial (internalBoot blank)
     (Answer.Boots
     (record {
       mode = Mode.Serial Entered.FromInternal;
