@@ -477,15 +477,16 @@ impl Boot<'_> {
         }
     }
 
-    /// Every mode and header there could be, and every wrong length up to 64.
+    /// Every mode and header there could be, and every wrong length up to 64 with those
+    /// that are taken and the first that are not.
     fn rows(&mut self) -> Result<(), String> {
         for mode in 0..=255 {
             for header in 0..=255 {
                 self.compare_rows(mode, header, ROWS)?;
             }
         }
-        for mode in 0..MODES.len() as u8 {
-            for header in 0..HEADERS.len() as u8 {
+        for mode in 0..=MODES.len() as u8 {
+            for header in 0..=HEADERS.len() as u8 {
                 for rows_len in (0..=64).filter(|&len| len != ROWS) {
                     self.compare_rows(mode, header, rows_len)?;
                 }

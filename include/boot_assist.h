@@ -1,5 +1,6 @@
 /*
- * The boot assist's C interface. Link target/staticlib/libexports.a, which `rt staticlib exports` writes.
+ * The boot assist's C interface. Link target/staticlib/libexports.a, which `rt staticlib exports` writes for
+ * x86-64 Linux.
  *
  * Every call answers for every value of its arguments: it returns a number of the table below, and a call
  * that returns another number than 0 has written nothing. The caller's part is what C cannot say: each

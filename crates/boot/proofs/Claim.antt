@@ -59,16 +59,16 @@ step
 step memory p places n rest true e w = (0, omega arith, omega arith, refl, e, λ i h. absurd (omega arith))
 step memory p places n rest false e w = more memory p places n (rest .found) (rest .place) (rest .looked) e w
 
-finds : (memory : List ℕ) (n : ℕ) (places : List ℕ) → Finds memory places n (walk memory n places)
+walk-finds : (memory : List ℕ) (n : ℕ) (places : List ℕ) → Finds memory places n (walk memory n places)
 unfolding walk
-finds memory n [] = (omega arith, λ i h. absurd (omega arith))
-finds memory n (p ∷ places) =
-    step memory p places n (walk memory (n + 1) places) (good memory p) refl (finds memory (n + 1) places)
+walk-finds memory n [] = (omega arith, λ i h. absurd (omega arith))
+walk-finds memory n (p ∷ places) =
+    step memory p places n (walk memory (n + 1) places) (good memory p) refl (walk-finds memory (n + 1) places)
 
 -- What a choice that is not refused claims.
 record Answered (flash : List ℕ) (c : Choice) : Type 0 where
   number : numberOf (c .answer) ≡ 0
-  ranked : Ranked flash (c .answer)
+  count : Ranked flash (c .answer)
   at-most-six : lookedOf (c .answer) ≤ 6
 
 internal
@@ -81,7 +81,7 @@ internal flash row true place looked w =
     let rank : w .0 ≡ looked - 1 = omega arith in
     record {
       number = refl;
-      ranked =
+      count =
           record {
             from-one = omega arith;
             has-rank = w .3 ∙ ap (λ (k : ℕ). getD flashPlaces k 0) rank;
@@ -90,7 +90,7 @@ internal flash row true place looked w =
           };
       at-most-six = omega arith;
     }
-internal flash row false place looked w = record { number = refl; ranked = (w .0, w .1); at-most-six = omega arith }
+internal flash row false place looked w = record { number = refl; count = (w .0, w .1); at-most-six = omega arith }
 
 external
     : (flash memory : List ℕ) (row : Row) (found : Bool) (place looked : ℕ)
@@ -99,16 +99,16 @@ external
     (settled Mode.External Entered.FromExternal memory (record { found = found; place = place; looked = looked }) row)
 unfolding settled externalPlaces
 external flash memory row true place looked w =
-    record { number = refl; ranked = omega arith; at-most-six = omega arith }
+    record { number = refl; count = omega arith; at-most-six = omega arith }
 external flash memory row false place looked w =
-    record { number = refl; ranked = w .0; at-most-six = omega arith }
+    record { number = refl; count = w .0; at-most-six = omega arith }
 
-answered : (asked : Asked) (flash shadow memory : List ℕ) → Answered flash (chosen asked flash shadow memory)
+chosen-answers : (asked : Asked) (flash shadow memory : List ℕ) → Answered flash (chosen asked flash shadow memory)
 unfolding chosen
-answered Asked.Internal flash shadow memory = internal flash (rowFor Asked.Internal shadow) _ _ _ (finds flash 0 flashPlaces)
-answered Asked.External flash shadow memory =
-    external flash memory (rowFor Asked.External shadow) _ _ _ (finds memory 0 externalPlaces)
-answered Asked.Serial flash shadow memory = record { number = refl; ranked = refl; at-most-six = omega arith }
+chosen-answers Asked.Internal flash shadow memory = internal flash (rowFor Asked.Internal shadow) _ _ _ (walk-finds flash 0 flashPlaces)
+chosen-answers Asked.External flash shadow memory =
+    external flash memory (rowFor Asked.External shadow) _ _ _ (walk-finds memory 0 externalPlaces)
+chosen-answers Asked.Serial flash shadow memory = record { number = refl; count = refl; at-most-six = omega arith }
 
 -- the claim's other fields, of the choice that a test of the sizes picks
 picked
@@ -117,7 +117,7 @@ picked
     → (numberOf (cond test c refusal .answer) ≡ cond test 0 9)
     × Ranked flash (cond test c refusal .answer)
     × (lookedOf (cond test c refusal .answer) ≤ 6)
-picked flash true c a = (a .number, a .ranked, a .at-most-six)
+picked flash true c a = (a .number, a .count, a .at-most-six)
 picked flash false c a = (refl, tt, omega arith)
 
 pub claimed
@@ -127,6 +127,6 @@ pub claimed
 unfolding bootChoice
 claimed bootcfg flash shadow external {r} e =
     let c = chosen (askedBy bootcfg) flash shadow external in
-    let p = picked flash (allowed bootcfg flash shadow external) c (answered (askedBy bootcfg) flash shadow external) in
+    let p = picked flash (allowed bootcfg flash shadow external) c (chosen-answers (askedBy bootcfg) flash shadow external) in
     subst (λ (x : Choice). ChoiceClaim bootcfg flash shadow external x) (sym e)
-    (record { equation = refl; number = p .0; ranked = p .1; at-most-six = p .2 })
+    (record { equation = refl; number = p .0; count = p .1; at-most-six = p .2 })

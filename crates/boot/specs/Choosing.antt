@@ -82,12 +82,12 @@ unfoldable pub bootChoice : ℕ → List ℕ → List ℕ → List ℕ → Choic
 bootChoice bootcfg flash shadow external =
     cond (allowed bootcfg flash shadow external) (chosen (askedBy bootcfg) flash shadow external) refusal
 
--- the numbers of the answers (01, "What the external says back")
+-- the numbers of the answers (01, "What the head says back")
 abbrev pub numberOf : Answer → ℕ
 numberOf Answer.Refused = 9
 numberOf (Answer.Boots boot) = 0
 
--- the number of places looked at, 0 where the call was refusal
+-- the number of places looked at, 0 where the call was refused
 abbrev pub lookedOf : Answer → ℕ
 lookedOf Answer.Refused = 0
 lookedOf (Answer.Boots boot) = boot .looked

@@ -40,6 +40,7 @@ pub record ChoiceClaim (bootcfg : ℕ) (flash shadow external : List ℕ) (r : C
   pub equation : r ≡ bootChoice bootcfg flash shadow external
   -- number 9 exactly for "BOOTCFG, flash, shadow or external head of a size not allowed"
   pub number : numberOf (r .answer) ≡ cond (allowed bootcfg flash shadow external) 0 9
-  pub ranked : Ranked flash (r .answer)
+  -- the rank rule
+  pub count : Ranked flash (r .answer)
   -- "No more than 6 are ever looked at."
   pub at-most-six : lookedOf (r .answer) ≤ 6

@@ -1,9 +1,9 @@
 -- A loop that writes the numbers of rows into a list, eight a turn.
-use Prim.Native.Nat.{ℕ, zero, suc, _+_, _*_, _≤_, _<_}
+use Prim.Native.Nat.{ℕ, _+_, _*_, _≤_, _<_}
 use native.Mathlib.Numerals.{add-one}
 use native.Mathlib.Omega.{arith}
-use mathlib.Core.Path.{_≡_, refl, sym, ap, _∙_}
-use mathlib.Core.List.{List, [], _∷_, _++_, append-assoc, append-nil}
+use mathlib.Core.Path.{_≡_, refl, ap, _∙_}
+use mathlib.Core.List.{List, [], _∷_, _++_, append-nil}
 use lib.ListN.{length, getD, take, drop, length-append, length-drop, drop-of-length-le}
 use lib.Seq.{paste, take-at, drop-append-add, drop-drop, length-take-le, take-all, take-suc}
 use Rattle.mmu.specs.declared.Row.{Row}
@@ -21,11 +21,11 @@ rows-append (x ∷ xs) ys = rw (rows-append xs ys)
 behind : (p q r : List ℕ) (n k : ℕ) → length p ≡ n → length r ≡ k → paste (p ++ q) n r k ≡ p ++ r ++ drop k q
 behind p q r n k e f = rw (take-at p q n e, take-all k r (omega arith), ← e, drop-append-add)
 
-module _ (out₀ : List ℕ) (rows : List Row) (i : ℕ) (five : length rows ≡ 5) where
-  -- the invariant: the numbers of the first i rows, and behind them what the output had there
-  abbrev pub Written : List ℕ → Type 0
-  Written out = out ≡ tableNumbers (take i rows) ++ drop (8 * i) out₀
+-- the invariant: the numbers of the first i rows, and behind them what the output had there
+abbrev pub Written : List ℕ → List Row → ℕ → List ℕ → Type 0
+Written out₀ rows i out = out ≡ tableNumbers (take i rows) ++ drop (8 * i) out₀
 
+module _ (out₀ : List ℕ) (rows : List Row) (i : ℕ) (five : length rows ≡ 5) where
   written-length : i ≤ 5 → length (tableNumbers (take i rows)) ≡ 8 * i
   written-length h =
       let n : i ≤ length rows = omega arith in
@@ -38,9 +38,9 @@ module _ (out₀ : List ℕ) (rows : List Row) (i : ℕ) (five : length rows ≡
 
   pub turn
       : (d : Row) (out : List ℕ)
-      → Written out
+      → Written out₀ rows i out
       → i < 5
-      → paste out (8 * i) (rowNumbers (getD rows i d)) 8 ≡ tableNumbers (take (i + 1) rows) ++ drop (8 * (i + 1)) out₀
+      → Written out₀ rows (i + 1) (paste out (8 * i) (rowNumbers (getD rows i d)) 8)
   turn d out e h =
       let n : 8 * i + 8 ≡ 8 * (i + 1) = omega arith in
       ap (λ (l : List ℕ). paste l (8 * i) (rowNumbers (getD rows i d)) 8) e
@@ -48,10 +48,10 @@ module _ (out₀ : List ℕ) (rows : List Row) (i : ℕ) (five : length rows ≡
       ∙ ap (λ (l : List ℕ). l ++ drop 8 (drop (8 * i) out₀)) (one-more d h)
       ∙ ap (λ (l : List ℕ). tableNumbers (take (i + 1) rows) ++ l) (drop-drop 8 (8 * i) out₀ ∙ ap (λ (k : ℕ). drop k out₀) n)
 
-  pub kept : (out : List ℕ) → Written out → i ≤ 5 → length out₀ ≡ 40 → length out ≡ length out₀
+  pub kept : (out : List ℕ) → Written out₀ rows i out → i ≤ 5 → length out₀ ≡ 40 → length out ≡ length out₀
   kept out e h long = rw (e, length-append, length-drop) (omega (arith, written-length h))
 
-  pub done : (out : List ℕ) → Written out → 5 ≤ i → length out₀ ≡ 40 → out ≡ tableNumbers rows
+  pub done : (out : List ℕ) → Written out₀ rows i out → 5 ≤ i → length out₀ ≡ 40 → out ≡ tableNumbers rows
   done out e h long =
       let m : length rows ≤ i = omega arith in
       let n : length out₀ ≤ 8 * i = omega arith in

@@ -1,7 +1,7 @@
 -- The numbers that stand for the boot choice and the MMU rows in the C interface (include/boot_assist.h).
 use Prim.Native.Nat.{ℕ}
 use mathlib.Core.List.{List, [], _∷_, _++_}
-use mathlib.Core.Bool.{Bool, true, false, cond}
+use mathlib.Core.Bool.{Bool, cond}
 use lib.Dec.{eqb}
 use Rattle.boot.specs.declared.Boot.{Boot}
 use Rattle.boot.specs.declared.Entered.{Entered}

@@ -176,10 +176,12 @@ fn put_mapping(rows: &mut [u32], header: u8, mapping: Mapping) -> u8
     if number != 0 {
         return number;
     }
-    if (header <= 2) & (rows.len() == 40) {
-        let found = mapping.rows;
-        put_rows(rows, found);
-        return 0;
+    if header <= 2 {
+        if rows.len() == 40 {
+            let found = mapping.rows;
+            put_rows(rows, found);
+            return 0;
+        }
     }
     9
 }

@@ -1,4 +1,4 @@
-// The MMU rows (01, "MMU rows"; 000, Table 16-2) of internal boot and of serial boot.
+// The MMU rows (01, "MMU rows"; 000, Table 16-2) of internal boot, and of serial boot entered directly or from internal.
 ghost use mathlib.Core.Path.{_≡_};
 ghost use Rattle.mmu.specs.Rows.{vleOf, tableRow, internalRows, hasExternalRows, mappingFor};
 use boot::Entered;

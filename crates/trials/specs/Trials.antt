@@ -1,4 +1,4 @@
--- The trial exchanges that 01 marks P ("Trial exchanges"): one table, and one claim about it.
+-- The trial exchanges that 01 marks P ("Trial exchanges"), so far P10 to P12: one table, and one claim about it.
 use Prim.Native.Nat.{ℕ, _+_, _-_}
 use mathlib.Core.Path.{_≡_}
 use mathlib.Core.List.{List, [], _∷_, _++_}

@@ -1,18 +1,16 @@
 -- `exports::put_rows` meets its contract: after i turns the numbers of the first i rows are in place.
-use Prim.Native.Nat.{_*_, _≤_, _-_}
+use Prim.Native.Nat.{_≤_, _-_}
 use native.Mathlib.Omega.{arith}
-use mathlib.Core.List.{_++_}
 use mathlib.Core.Path.{_≡_, refl}
-use lib.ListN.{length, take, drop}
+use lib.ListN.{length}
 use denote.Ref.{now}
 use borrow.Author.Needs.{needs}
-use Rattle.exports.specs.Numbers.{tableNumbers}
-use Rattle.exports.proofs.Rows.{turn, kept, done}
+use Rattle.exports.proofs.Rows.{Written, turn, kept, done}
 use Rattle.exports.proofs.put_rows.Statement.{statement}
 use Rattle.exports.proofs.put_rows.Tie as tie
 
 abbrev Inv-loop : tie.InvT-loop
-Inv-loop out₀ rows i₀ out i = (i ≤ 5) × (out ≡ tableNumbers (take i rows) ++ drop (8 * i) out₀) × (length rows ≡ 5)
+Inv-loop out₀ rows i₀ out i = (i ≤ 5) × Written out₀ rows i out × (length rows ≡ 5)
 
 abbrev μ-loop : tie.MeasureT-loop
 μ-loop out₀ rows i₀ out i = 5 - i
