@@ -1,6 +1,6 @@
 #!/bin/sh
 # Builds target/examples/choice (examples/choice.c over the proved library) and shows a boot choice with it.
-#     sh examples/choice.sh                              a made-up flash with a half word at 0x1C000
+#     sh examples/choice.sh                                  a made-up flash with a half word at 0x1C000
 #     sh examples/choice.sh BOOTCFG FLASH SHADOW EXTERNAL    images of your own
 set -eu
 root=$(cd "$(dirname "$0")/.." && pwd)

@@ -65,16 +65,16 @@ walk-finds memory n [] = (omega arith, λ i h. absurd (omega arith))
 walk-finds memory n (p ∷ places) =
     step memory p places n (walk memory (n + 1) places) (good memory p) refl (walk-finds memory (n + 1) places)
 
--- What a choice that is not refused claims.
-record Answered (flash : List ℕ) (c : Choice) : Type 0 where
-  number : numberOf (c .answer) ≡ 0
+-- The claim's other fields, of a choice with number n.
+record Answered (flash : List ℕ) (n : ℕ) (c : Choice) : Type 0 where
+  number : numberOf (c .answer) ≡ n
   count : Ranked flash (c .answer)
   at-most-six : lookedOf (c .answer) ≤ 6
 
 internal
     : (flash : List ℕ) (row : Row) (found : Bool) (place looked : ℕ)
     → Walked flash flashPlaces 0 found place looked
-    → Answered flash
+    → Answered flash 0
     (settled Mode.Internal Entered.FromInternal flash (record { found = found; place = place; looked = looked }) row)
 unfolding settled flashPlaces
 internal flash row true place looked w =
@@ -95,7 +95,7 @@ internal flash row false place looked w = record { number = refl; count = (w .0,
 external
     : (flash memory : List ℕ) (row : Row) (found : Bool) (place looked : ℕ)
     → Walked memory externalPlaces 0 found place looked
-    → Answered flash
+    → Answered flash 0
     (settled Mode.External Entered.FromExternal memory (record { found = found; place = place; looked = looked }) row)
 unfolding settled externalPlaces
 external flash memory row true place looked w =
@@ -103,22 +103,17 @@ external flash memory row true place looked w =
 external flash memory row false place looked w =
     record { number = refl; count = w .0; at-most-six = omega arith }
 
-chosen-answers : (asked : Asked) (flash shadow memory : List ℕ) → Answered flash (chosen asked flash shadow memory)
+chosen-answers : (asked : Asked) (flash shadow memory : List ℕ) → Answered flash 0 (chosen asked flash shadow memory)
 unfolding chosen
 chosen-answers Asked.Internal flash shadow memory = internal flash (rowFor Asked.Internal shadow) _ _ _ (walk-finds flash 0 flashPlaces)
 chosen-answers Asked.External flash shadow memory =
     external flash memory (rowFor Asked.External shadow) _ _ _ (walk-finds memory 0 externalPlaces)
 chosen-answers Asked.Serial flash shadow memory = record { number = refl; count = refl; at-most-six = omega arith }
 
--- the claim's other fields, of the choice that a test of the sizes picks
-picked
-    : (flash : List ℕ) (test : Bool) (c : Choice)
-    → Answered flash c
-    → (numberOf (cond test c refusal .answer) ≡ cond test 0 9)
-    × Ranked flash (cond test c refusal .answer)
-    × (lookedOf (cond test c refusal .answer) ≤ 6)
-picked flash true c a = (a .number, a .count, a .at-most-six)
-picked flash false c a = (refl, tt, omega arith)
+-- the choice that the test of the sizes picks
+picked : (flash : List ℕ) (test : Bool) (c : Choice) → Answered flash 0 c → Answered flash (cond test 0 9) (cond test c refusal)
+picked flash true c a = a
+picked flash false c a = record { number = refl; count = tt; at-most-six = omega arith }
 
 pub claimed
     : (bootcfg : ℕ) (flash shadow external : List ℕ) {r : Choice}
@@ -129,4 +124,4 @@ claimed bootcfg flash shadow external {r} e =
     let c = chosen (askedBy bootcfg) flash shadow external in
     let p = picked flash (allowed bootcfg flash shadow external) c (chosen-answers (askedBy bootcfg) flash shadow external) in
     subst (λ (x : Choice). ChoiceClaim bootcfg flash shadow external x) (sym e)
-    (record { equation = refl; number = p .0; count = p .1; at-most-six = p .2 })
+    (record { equation = refl; number = p .number; count = p .count; at-most-six = p .at-most-six })

@@ -28,6 +28,7 @@ control55AA Asked.External shadow = eqb (censorshipControl shadow) 0x55AA
 abbrev pub publicPassword : List ℕ
 publicPassword = 0xFE ∷ 0xED ∷ 0xFA ∷ 0xCE ∷ 0xCA ∷ 0xFE ∷ 0xBE ∷ 0xEF ∷ []
 
+-- "the 8 password bytes" of the shadow row
 abbrev pub flashPassword : List ℕ → List ℕ
 flashPassword shadow = firstEight shadow
 

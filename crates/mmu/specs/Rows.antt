@@ -28,6 +28,7 @@ guarded = true
 abbrev pub notGuarded : Bool
 notGuarded = false
 
+-- the rows that no header sets VLE on
 abbrev pub noVle : Bool
 noVle = false
 
@@ -52,7 +53,7 @@ tableRow logical physical size cache guard vle =
       vle = vle;
     }
 
--- Table 16-2
+-- Table 16-2, with VLE "on entries 1 to 3" (01)
 unfoldable pub internalRows : Bool → List Row
 internalRows vle =
     -- 0, peripheral bridge B and BAM
