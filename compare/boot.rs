@@ -1,6 +1,7 @@
 //! The boot choice and the MMU rows: the inputs, and the comparison of the answers.
 
 use crate::random::Random;
+use crate::report::{hex, line};
 use crate::{ours, Among, Tally};
 use reference::boot::{choose, Choice, Entered, Mode};
 use reference::mmu::{rows, Header, Row};
@@ -134,10 +135,6 @@ impl fmt::Display for Input {
     }
 }
 
-fn hex(bytes: &[u8]) -> String {
-    bytes.iter().map(|byte| format!(" {byte:02X}")).collect()
-}
-
 /// What a call returned, and its output buffers after it.
 #[derive(Clone, PartialEq)]
 struct Answer {
@@ -160,22 +157,18 @@ impl Answer {
 /// Both answers side by side, with a star where they differ; words beyond `names` only
 /// where they differ. What a call must leave alone has its content before the call.
 fn side_by_side(ours: &Answer, reference: &Answer, names: &[String]) -> String {
-    let line = |name: &str, ours: String, reference: String| {
-        let mark = if ours == reference { ' ' } else { '*' };
-        format!("{mark} {name:<16} {ours:<24} {reference}\n")
-    };
     let mut text = format!("  {:<16} {:<24} reference\n", "", "ours");
     let number = |answer: &Answer| answer.number.to_string();
-    text += &line("number", number(ours), number(reference));
+    text += &line("number", &number(ours), &number(reference));
     for (index, (ours, reference)) in ours.words.iter().zip(&reference.words).enumerate() {
         let beyond = format!("beyond, {index}");
         let name = names.get(index).unwrap_or(&beyond);
         if index < names.len() || ours != reference {
-            text += &line(name, format!("{ours:#x}"), format!("{reference:#x}"));
+            text += &line(name, &format!("{ours:#x}"), &format!("{reference:#x}"));
         }
     }
     for (ours, reference) in ours.bytes.chunks(8).zip(reference.bytes.chunks(8)) {
-        text += &line("password buffer", hex(ours), hex(reference));
+        text += &line("password buffer", &hex(ours), &hex(reference));
     }
     text
 }

@@ -1,9 +1,16 @@
 //! Hands the same inputs to the library and to the reference, and compares the
-//! answers: `compare [SEED] [COUNT]`, with COUNT random boot inputs.
+//! answers: `compare [SEED] [COUNT] [LISTS]`, with COUNT random boot inputs, and LISTS
+//! random lists of session items and as many random sessions.
 
+mod bench;
 mod boot;
+mod exchanges;
+mod making;
+mod numbers;
 mod ours;
 mod random;
+mod report;
+mod session;
 
 use random::Random;
 use std::env;
@@ -12,19 +19,22 @@ use std::process::ExitCode;
 
 const SEED: u64 = 0x5A55_AAFE_EDFA_CE01;
 const COUNT: u64 = 40_000;
+const LISTS: u64 = 60_000;
 
 fn main() -> ExitCode {
-    let (seed, count) = match arguments() {
+    let [seed, count, lists] = match arguments() {
         Ok(arguments) => arguments,
         Err(message) => {
-            eprintln!("compare: {message}\nusage: compare [SEED] [COUNT]");
+            eprintln!("compare: {message}\nusage: compare [SEED] [COUNT] [LISTS]");
             return ExitCode::from(2);
         }
     };
     println!("compare: seed {seed:#x}");
 
     let mut tally = Tally::default();
-    if let Err(difference) = boot::run(Random::new(seed), count, &mut tally) {
+    let compared = boot::run(Random::new(seed), count, &mut tally)
+        .and_then(|()| session::run(Random::new(!seed), lists, &mut tally));
+    if let Err(difference) = compared {
         let number = tally.inputs + 1;
         println!("compare: difference at seed {seed:#x}, input number {number}\n{difference}");
         return ExitCode::FAILURE;
@@ -42,10 +52,10 @@ fn main() -> ExitCode {
     ExitCode::SUCCESS
 }
 
-fn arguments() -> Result<(u64, u64), String> {
+fn arguments() -> Result<[u64; 3], String> {
     let arguments: Vec<_> = env::args_os().skip(1).collect();
-    if arguments.len() > 2 {
-        return Err(format!("{} arguments, at most 2 expected", arguments.len()));
+    if arguments.len() > 3 {
+        return Err(format!("{} arguments, at most 3 expected", arguments.len()));
     }
     let number = |index: usize, name: &str, default: u64| match arguments.get(index) {
         None => Ok(default),
@@ -53,7 +63,11 @@ fn arguments() -> Result<(u64, u64), String> {
             "{name} is {argument:?}, a decimal or 0x hexadecimal number of 64 bits expected"
         )),
     };
-    Ok((number(0, "SEED", SEED)?, number(1, "COUNT", COUNT)?))
+    Ok([
+        number(0, "SEED", SEED)?,
+        number(1, "COUNT", COUNT)?,
+        number(2, "LISTS", LISTS)?,
+    ])
 }
 
 fn parse(text: &str) -> Option<u64> {

@@ -19,6 +19,54 @@ extern "C" {
     ) -> u8;
 
     fn boot_assist_rows(mode: u8, header: u8, rows: *mut u32, rows_len: usize) -> u8;
+
+    fn boot_assist_session(
+        mode: u8,
+        password: *const u8,
+        password_len: usize,
+        session: *mut u32,
+        session_len: usize,
+    ) -> u8;
+
+    fn boot_assist_frame(
+        session: *mut u32,
+        session_len: usize,
+        sram: *mut u8,
+        sram_len: usize,
+        identifier: u32,
+        data: *const u8,
+        data_len: usize,
+        answer: *mut u32,
+        answer_len: usize,
+    ) -> u8;
+
+    fn boot_assist_byte(
+        session: *mut u32,
+        session_len: usize,
+        sram: *mut u8,
+        sram_len: usize,
+        byte: u8,
+        faulty: u8,
+        answer: *mut u32,
+        answer_len: usize,
+    ) -> u8;
+
+    fn boot_assist_list(
+        session: *mut u32,
+        session_len: usize,
+        sram: *mut u8,
+        sram_len: usize,
+        kinds: *const u8,
+        kinds_len: usize,
+        identifiers: *const u32,
+        identifiers_len: usize,
+        counts: *const u32,
+        counts_len: usize,
+        bytes: *const u8,
+        bytes_len: usize,
+        answers: *mut u32,
+        answers_len: usize,
+    ) -> u8;
 }
 
 pub fn choice(
@@ -29,7 +77,7 @@ pub fn choice(
     fields: &mut [u32],
     password: &mut [u8],
 ) -> u8 {
-    // SAFETY: slices are valid for their length and not null, and the two that are
+    // SAFETY: slices are valid for their length and not null, and those that are
     // written overlap nothing.
     unsafe {
         boot_assist_choice(
@@ -51,4 +99,86 @@ pub fn choice(
 pub fn rows(mode: u8, header: u8, rows: &mut [u32]) -> u8 {
     // SAFETY: as above.
     unsafe { boot_assist_rows(mode, header, rows.as_mut_ptr(), rows.len()) }
+}
+
+pub fn session(mode: u8, password: &[u8], session: &mut [u32]) -> u8 {
+    // SAFETY: as above.
+    unsafe {
+        boot_assist_session(
+            mode,
+            password.as_ptr(),
+            password.len(),
+            session.as_mut_ptr(),
+            session.len(),
+        )
+    }
+}
+
+pub fn frame(
+    session: &mut [u32],
+    sram: &mut [u8],
+    identifier: u32,
+    data: &[u8],
+    answer: &mut [u32],
+) -> u8 {
+    // SAFETY: as above.
+    unsafe {
+        boot_assist_frame(
+            session.as_mut_ptr(),
+            session.len(),
+            sram.as_mut_ptr(),
+            sram.len(),
+            identifier,
+            data.as_ptr(),
+            data.len(),
+            answer.as_mut_ptr(),
+            answer.len(),
+        )
+    }
+}
+
+pub fn byte(session: &mut [u32], sram: &mut [u8], byte: u8, faulty: u8, answer: &mut [u32]) -> u8 {
+    // SAFETY: as above.
+    unsafe {
+        boot_assist_byte(
+            session.as_mut_ptr(),
+            session.len(),
+            sram.as_mut_ptr(),
+            sram.len(),
+            byte,
+            faulty,
+            answer.as_mut_ptr(),
+            answer.len(),
+        )
+    }
+}
+
+pub fn list(
+    session: &mut [u32],
+    sram: &mut [u8],
+    kinds: &[u8],
+    identifiers: &[u32],
+    counts: &[u32],
+    bytes: &[u8],
+    answers: &mut [u32],
+) -> u8 {
+    // SAFETY: as above.
+    unsafe {
+        boot_assist_list(
+            session.as_mut_ptr(),
+            session.len(),
+            sram.as_mut_ptr(),
+            sram.len(),
+            kinds.as_ptr(),
+            kinds.len(),
+            identifiers.as_ptr(),
+            identifiers.len(),
+            counts.as_ptr(),
+            counts.len(),
+            bytes.as_ptr(),
+            bytes.len(),
+            answers.as_mut_ptr(),
+            answers.len(),
+        )
+    }
 }

@@ -3,11 +3,18 @@
  * x86-64 Linux.
  *
  * Every call answers for every value of its arguments: it returns a number of the table below, and a call
- * that returns another number than 0 has written nothing. The caller's part is what C cannot say: each
- * pointer is valid for its length and not null, also where the length is 0, and no output overlaps another
- * argument.
+ * that returns 6 or above has written nothing. The caller's part is what C cannot say: each pointer is valid
+ * for its length and not null, also where the length is 0, and no output overlaps another argument.
  *
- *    0  answered
+ *    0  answered; the item was taken
+ *    1  the item was ignored
+ *    2  the 8th password byte is in, and the password did not pass: the session is stopped
+ *    3  the header is complete, and its length is 0: the session is stopped
+ *    4  the header is complete, and the load does not lie wholly in SRAM: the session is stopped
+ *    5  the last byte is stored: the head jumps
+ *    6  the frame's identifier is above 2047 or its count above 8; of a list: its parts do not fit each other
+ *    7  SRAM is not 65536 bytes
+ *    8  the session is not sound, or no session has these numbers
  *    9  BOOTCFG, the flash, the shadow row or the external head is of a size that is not allowed;
  *       here also an output of another length, or a mode or header that is none of the numbers below
  *   11  rows of external boot were asked for, whatever the header and the output's length
@@ -96,6 +103,107 @@ enum boot_assist_row {
  * Returns 0, 9, or 11 for external boot and for serial boot entered from external.
  */
 uint8_t boot_assist_rows(uint8_t mode, uint8_t header, uint32_t *rows, size_t rows_len);
+
+/* The stages of a session. */
+enum boot_assist_stage {
+    BOOT_ASSIST_STAGE_WAITING = 0,
+    BOOT_ASSIST_STAGE_PASSWORD = 1,
+    BOOT_ASSIST_STAGE_HEADER = 2,
+    BOOT_ASSIST_STAGE_DATA = 3,
+    BOOT_ASSIST_STAGE_STOPPED = 4,
+    BOOT_ASSIST_STAGE_JUMPED = 5
+};
+
+enum boot_assist_port { BOOT_ASSIST_PORT_CAN = 0, BOOT_ASSIST_PORT_SERIAL = 1 };
+
+/* The numbers of a session. A number that the stage does not have is 0: the port is that of the password (always
+ * serial), header and data stages; start and VLE are those of the data and jumped stages; the next address and
+ * the bytes owed are those of the data stage; the refusal is that of the stopped stage. */
+enum boot_assist_session_number {
+    BOOT_ASSIST_SESSION_SELECTED = 0, /* 8 bytes: the password selected by the boot choice */
+    BOOT_ASSIST_SESSION_STAGE = 8,    /* a boot_assist_stage */
+    BOOT_ASSIST_SESSION_PORT = 9,     /* a boot_assist_port */
+    BOOT_ASSIST_SESSION_COUNT = 10,   /* how many password or header bytes are held */
+    BOOT_ASSIST_SESSION_HELD = 11,    /* 8 bytes, of which the first COUNT are held */
+    BOOT_ASSIST_SESSION_START = 19,   /* the start address, which is the jump address */
+    BOOT_ASSIST_SESSION_VLE = 20,     /* 1: VLE code */
+    BOOT_ASSIST_SESSION_NEXT = 21,    /* the address of the next byte */
+    BOOT_ASSIST_SESSION_OWED = 22,    /* how many bytes are still owed */
+    BOOT_ASSIST_SESSION_REFUSAL = 23, /* the number that stopped the session: 2, 3 or 4 */
+    BOOT_ASSIST_SESSION_LENGTH = 24
+};
+
+/*
+ * A fresh session, from a serial boot choice; a reset is a new boot choice, and SRAM keeps its bytes.
+ *
+ * mode          the choice's boot_assist_mode: one of the three of serial boot
+ * password      the 8 bytes that the choice selected
+ * session       BOOT_ASSIST_SESSION_LENGTH numbers, written
+ *
+ * Returns 0 or 9.
+ */
+uint8_t boot_assist_session(uint8_t mode,
+                            const uint8_t *password, size_t password_len,
+                            uint32_t *session, size_t session_len);
+
+/* The numbers of an answer. Where there is no echo its identifier, length and bytes are 0; the identifier is 0 for
+ * serial too. The jump address and VLE are 0 unless the number is 5. */
+enum boot_assist_answer {
+    BOOT_ASSIST_ANSWER_NUMBER = 0,
+    BOOT_ASSIST_ANSWER_ECHO_IDENTIFIER = 1, /* CAN: 1, 2 or 3 */
+    BOOT_ASSIST_ANSWER_ECHO_LENGTH = 2,
+    BOOT_ASSIST_ANSWER_ECHO = 3,            /* 8 bytes, of which the first ECHO_LENGTH are echoed */
+    BOOT_ASSIST_ANSWER_JUMP = 11,
+    BOOT_ASSIST_ANSWER_VLE = 12,
+    BOOT_ASSIST_ANSWER_LENGTH = 13
+};
+
+/*
+ * One CAN frame, and one serial byte.
+ *
+ * session       BOOT_ASSIST_SESSION_LENGTH numbers, as the last call left them; written
+ * sram          65536 bytes; data bytes are stored in it
+ * identifier    of the frame, any
+ * data          of the frame, of any length
+ * byte          the serial byte
+ * faulty        0: the byte is clean, any other number: it is faulty
+ * answer        BOOT_ASSIST_ANSWER_LENGTH numbers, written
+ *
+ * Returns the number of the answer, 0 to 5; or 7, then 8, then 6, then 9 for an answer of another length.
+ */
+uint8_t boot_assist_frame(uint32_t *session, size_t session_len,
+                          uint8_t *sram, size_t sram_len,
+                          uint32_t identifier,
+                          const uint8_t *data, size_t data_len,
+                          uint32_t *answer, size_t answer_len);
+
+uint8_t boot_assist_byte(uint32_t *session, size_t session_len,
+                         uint8_t *sram, size_t sram_len,
+                         uint8_t byte, uint8_t faulty,
+                         uint32_t *answer, size_t answer_len);
+
+/* What an item of a list is, as in a capture file. */
+enum boot_assist_kind { BOOT_ASSIST_KIND_FRAME = 1, BOOT_ASSIST_KIND_CLEAN = 2, BOOT_ASSIST_KIND_FAULTY = 3 };
+
+/*
+ * A list of items, one call after another.
+ *
+ * kinds         a boot_assist_kind for each item
+ * identifiers   a number for each item: of a frame its identifier; of a serial byte it is not looked at
+ * counts        a number for each item: how many of the bytes are its own, of a serial byte 1
+ * bytes         the bytes of all items, one item's behind another's
+ * answers       BOOT_ASSIST_ANSWER_LENGTH numbers for each item, written
+ *
+ * Returns 0; or 7, then 8, then 6 where the lengths of the lists, the counts or a kind do not fit. An item that is
+ * refused for its form has its 6 in its answer.
+ */
+uint8_t boot_assist_list(uint32_t *session, size_t session_len,
+                         uint8_t *sram, size_t sram_len,
+                         const uint8_t *kinds, size_t kinds_len,
+                         const uint32_t *identifiers, size_t identifiers_len,
+                         const uint32_t *counts, size_t counts_len,
+                         const uint8_t *bytes, size_t bytes_len,
+                         uint32_t *answers, size_t answers_len);
 
 #ifdef __cplusplus
 }

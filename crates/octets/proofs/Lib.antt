@@ -1,1 +1,3 @@
 pub mod Past
+pub mod Filling
+pub mod Comparing

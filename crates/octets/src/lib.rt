@@ -1,7 +1,9 @@
-// Reads of a byte and of a big-endian number that answer for every place of every slice.
+// Reads of a byte and of a big-endian number that answer for every place of every slice, and a write of several bytes.
 ghost use mathlib.Core.Path.{_≡_};
-ghost use Prim.Native.Nat.{_+_, _*_};
+ghost use Prim.Native.Nat.{_+_, _*_, _≤_};
 ghost use Rattle.octets.specs.Read.{byteAt, halfAt, wordAt, firstEight};
+ghost use Rattle.octets.specs.Write.{over, filled};
+ghost use lib.ListN.{length};
 
 // The byte at a place, or 0 past the end.
 pub fn byte(s: &[u8], at: usize) -> u8
@@ -58,4 +60,41 @@ pub fn first_eight(s: &[u8]) -> [u8; 8]
         byte(s, 6),
         byte(s, 7),
     ]
+}
+
+// Writes bytes over the first places of a slice that has room for them.
+fn copy(out: &mut [u8], bytes: &[u8])
+    requires { ⌜ length (now bytes) ≤ length (now out) ⌝ }
+    ensures { λ _. ⌜ now (out .exit) ≡ over (now (bytes .entry)) (now (out .entry)) ⌝ }
+{
+    for i in 0..bytes.len() {
+        out[i] = bytes[i];
+    }
+}
+
+// Writes bytes over the first places of a slice, or nothing where there is no room for them.
+pub fn fill(out: &mut [u8], bytes: &[u8])
+    ensures { λ _. ⌜ now (out .exit) ≡ filled (now (bytes .entry)) (now (out .entry)) ⌝ }
+{
+    if bytes.len() <= out.len() {
+        copy(out, bytes);
+    }
+}
+
+// The same for 32-bit numbers.
+fn copy_words(out: &mut [u32], words: &[u32])
+    requires { ⌜ length (now words) ≤ length (now out) ⌝ }
+    ensures { λ _. ⌜ now (out .exit) ≡ over (now (words .entry)) (now (out .entry)) ⌝ }
+{
+    for i in 0..words.len() {
+        out[i] = words[i];
+    }
+}
+
+pub fn fill_words(out: &mut [u32], words: &[u32])
+    ensures { λ _. ⌜ now (out .exit) ≡ filled (now (words .entry)) (now (out .entry)) ⌝ }
+{
+    if words.len() <= out.len() {
+        copy_words(out, words);
+    }
 }

@@ -1,8 +1,8 @@
--- The trial exchanges that 01 marks P ("Trial exchanges"), so far P10 to P12: one table, and one claim about it.
+-- The trial exchanges that 01 marks P ("Trial exchanges"): one table, and one claim about it.
 use Prim.Native.Nat.{ℕ, _+_, _-_}
 use mathlib.Core.Path.{_≡_}
 use mathlib.Core.List.{List, [], _∷_, _++_}
-use mathlib.Core.Bool.{true, false}
+use mathlib.Core.Bool.{Bool, true, false}
 use lib.ListN.{replicate}
 use Rattle.boot.specs.declared.Answer.{Answer}
 use Rattle.boot.specs.declared.Boot.{Boot}
@@ -10,6 +10,14 @@ use Rattle.boot.specs.declared.Entered.{Entered}
 use Rattle.boot.specs.declared.Mode.{Mode}
 use Rattle.boot.specs.Choosing.{bootChoice}
 use Rattle.boot.specs.Places.{good}
+use Rattle.boot.specs.Table.{publicPassword}
+use Rattle.session.specs.declared.Port.{Port}
+use Rattle.session.specs.declared.Session.{Session}
+use Rattle.session.specs.declared.Stage.{Stage}
+use Rattle.session.specs.Answers.{After, numberOf}
+use Rattle.session.specs.Fresh.{freshSession}
+use Rattle.session.specs.Items.{Item}
+use Rattle.session.specs.Rules.{after}
 
 -- a case: what the rules give, and what 01 says that it is
 pub record Case : Type 1 where
@@ -17,8 +25,37 @@ pub record Case : Type 1 where
   pub given : Kind
   pub expected : Kind
 
-abbrev trial : {Kind : Type 0} → Kind → Kind → Case
+abbrev pub trial : {Kind : Type 0} → Kind → Kind → Case
 trial {Kind} given expected = record { Kind = Kind; given = given; expected = expected }
+
+-- SRAM of zeroes
+abbrev pub zeroes : List ℕ
+zeroes = replicate 65536 0
+
+-- a CAN session that waits for the header, the header handed in, and the stage and the number after it
+abbrev atHeader : Session
+atHeader = record { selected = publicPassword; stage = Stage.Header Port.Can; held = replicate 8 0; count = 0 }
+
+abbrev headed : List ℕ → After
+headed header = after atHeader zeroes (Item.Frame 0x012 header)
+
+abbrev stageAfter : List ℕ → Stage
+stageAfter header = headed header .session .stage
+
+abbrev numberAfter : List ℕ → ℕ
+numberAfter header = numberOf (headed header .answer .outcome)
+
+-- the data stage of an accepted header
+abbrev accepted : ℕ → Bool → ℕ → Stage
+accepted start vle count =
+    Stage.Data Port.Can (record { start = record { 0 = start }; vle = vle; next = start; owed = count })
+
+-- a password with half word 0000, and the number that it gets where it is the selected one too
+abbrev halfWord0000 : List ℕ
+halfWord0000 = 0xFE ∷ 0xED ∷ 0x00 ∷ 0x00 ∷ 0xCA ∷ 0xFE ∷ 0xBE ∷ 0xEF ∷ []
+
+abbrev numberOpening : List ℕ → ℕ
+numberOpening password = numberOf (after (freshSession password) zeroes (Item.Frame 0x011 password) .answer .outcome)
 
 -- a flash that ends with the last place's 8 bytes: zeroes, and zeroes but for 0x5A as the second byte of one place
 abbrev blank : List ℕ
@@ -33,8 +70,30 @@ internalBoot flash = bootChoice 0 flash (replicate 12 0) (replicate 8 0) .answer
 
 abbrev pub table : List Case
 table =
+    -- P1 "header 40 00 00 00 80 00 14 00: start 0x40000000, VLE, 5,120 bytes"
+    trial (stageAfter (0x40 ∷ 0x00 ∷ 0x00 ∷ 0x00 ∷ 0x80 ∷ 0x00 ∷ 0x14 ∷ 0x00 ∷ []))
+    (accepted 0x40000000 true 5120)
+    -- P2 "length 65,536 at 0x40000000 accepted"
+    ∷ trial (stageAfter (0x40 ∷ 0x00 ∷ 0x00 ∷ 0x00 ∷ 0x00 ∷ 0x01 ∷ 0x00 ∷ 0x00 ∷ []))
+    (accepted 0x40000000 false 65536)
+    -- P3 "65,537: 4"
+    ∷ trial (numberAfter (0x40 ∷ 0x00 ∷ 0x00 ∷ 0x00 ∷ 0x00 ∷ 0x01 ∷ 0x00 ∷ 0x01 ∷ [])) 4
+    -- P4 "start 0x4000FFFC length 4 accepted"
+    ∷ trial (stageAfter (0x40 ∷ 0x00 ∷ 0xFF ∷ 0xFC ∷ 0x00 ∷ 0x00 ∷ 0x00 ∷ 0x04 ∷ []))
+    (accepted 0x4000FFFC false 4)
+    -- P5 "length 5: 4"
+    ∷ trial (numberAfter (0x40 ∷ 0x00 ∷ 0xFF ∷ 0xFC ∷ 0x00 ∷ 0x00 ∷ 0x00 ∷ 0x05 ∷ [])) 4
+    -- P6 "start 0x40000003 becomes 0x40000000"
+    ∷ trial (stageAfter (0x40 ∷ 0x00 ∷ 0x00 ∷ 0x03 ∷ 0x00 ∷ 0x00 ∷ 0x00 ∷ 0x01 ∷ []))
+    (accepted 0x40000000 false 1)
+    -- P7 "start 0x3FFFFFFF length 1: 4"
+    ∷ trial (numberAfter (0x3F ∷ 0xFF ∷ 0xFF ∷ 0xFF ∷ 0x00 ∷ 0x00 ∷ 0x00 ∷ 0x01 ∷ [])) 4
+    -- P8 "length 0 at 0x00000000: 3"
+    ∷ trial (numberAfter (0x00 ∷ 0x00 ∷ 0x00 ∷ 0x00 ∷ 0x00 ∷ 0x00 ∷ 0x00 ∷ 0x00 ∷ [])) 3
+    -- P9 "password with half word 0000 in both places: 2"
+    ∷ trial (numberOpening halfWord0000) 2
     -- P10 "5A only at 0x1C000: 4 places"
-    trial (internalBoot (with5A 0x1C000))
+    ∷ trial (internalBoot (with5A 0x1C000))
     (Answer.Boots
     (record {
       mode = Mode.Internal;

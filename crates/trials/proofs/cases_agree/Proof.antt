@@ -1,14 +1,22 @@
 -- `trials::cases_agree` meets its contract: each case holds by computation.
 use mathlib.Core.Path.{refl}
+use Rattle.octets.specs.Same.{same}
 use Rattle.boot.specs.Choosing.{bootChoice, chosen, settled}
 use Rattle.boot.specs.Places.{good, walk, flashPlaces}
 use Rattle.boot.specs.Table.{askedBy, rowFor, rowOf, control55AA}
+use Rattle.password.specs.Passing.{passes}
+use Rattle.sram.specs.Region.{size, base, lies}
+use Rattle.session.specs.Sound.{sound}
+use Rattle.session.specs.Rules.{after, ruled, takes, takenBy, moved, passwordMoved, checked, headerMoved, judged}
 use Rattle.trials.proofs.cases_agree.Statement.{statement}
 use Rattle.trials.proofs.cases_agree.Tie as tie
 
 returns : tie.Need-returns
-unfolding bootChoice chosen settled good walk flashPlaces askedBy rowFor rowOf control55AA
-returns c = (refl, (refl, (refl, tt)))
+unfolding
+    bootChoice chosen settled good walk flashPlaces askedBy rowFor rowOf control55AA same passes size base lies sound after ruled takes
+    takenBy moved passwordMoved checked headerMoved judged
+returns c =
+    (refl, (refl, (refl, (refl, (refl, (refl, (refl, (refl, (refl, (refl, (refl, (refl, tt))))))))))))
 
 pub cases-agree-spec : {M : Type 1} → statement M
 cases-agree-spec = tie.close (tie.spec returns)

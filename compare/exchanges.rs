@@ -1,0 +1,222 @@
+//! Exchanges that the papers print, with their numbers written out: document 01, "Trial
+//! exchanges", "Slips we have seen" and the capture's items; document 002, Tables 7
+//! to 14.
+
+use crate::bench::Bench;
+use crate::making::{clean, faulty, frame, header, PUBLIC};
+use crate::numbers::{
+    answer_name, session_name, Row, ANSWER, ECHO, ECHO_IDENTIFIER, ECHO_LENGTH, JUMP, JUMP_VLE,
+    SESSION,
+};
+use crate::random::Random;
+use crate::report::line;
+use reference::session::Item;
+
+/// An item and the answer that is printed.
+type Turn = (Item, Row);
+
+const SERIAL_DIRECTLY: u8 = 2;
+
+/// The answer to a taken item; the identifier is 0 for serial.
+fn echoed(number: u32, identifier: u32, data: &[u8]) -> Row {
+    let mut row = [0; ANSWER];
+    row[0] = number;
+    row[ECHO_IDENTIFIER] = identifier;
+    row[ECHO_LENGTH] = data.len() as u32;
+    for (number, &byte) in row[ECHO..].iter_mut().zip(data) {
+        *number = byte.into();
+    }
+    row
+}
+
+const IGNORED: Row = [1, 0, 0, 0, 0, 0, 0, 0, 0, 0, 0, 0, 0];
+
+/// `data` by one CAN frame or by clean serial bytes; the last item gets `number`.
+fn sent(port: u32, identifier: u32, data: &[u8], number: u32) -> Vec<Turn> {
+    if port == CAN {
+        let answer = echoed(number, identifier - 0x010, data);
+        return vec![(frame(identifier, data), answer)];
+    }
+    let last = data.len() - 1;
+    let turn = |(index, &byte)| {
+        let number = if index == last { number } else { 0 };
+        (clean(byte), echoed(number, 0, &[byte]))
+    };
+    data.iter().enumerate().map(turn).collect()
+}
+
+const CAN: u32 = 0;
+const SERIAL: u32 = 1;
+
+/// The numbers of a session that holds no password or header bytes.
+fn session(
+    selected: [u8; 8],
+    stage: u32,
+    port: u32,
+    [start, vle, next, owed, refusal]: [u32; 5],
+) -> [u32; SESSION] {
+    let [a, b, c, d, e, f, g, h] = selected.map(u32::from);
+    #[rustfmt::skip]
+    let numbers = [
+        a, b, c, d, e, f, g, h,
+        stage, port, 0,
+        0, 0, 0, 0, 0, 0, 0, 0,
+        start, vle, next, owed, refusal,
+    ];
+    numbers
+}
+
+/// Runs an exchange from a fresh session, and compares with what is printed.
+fn exchange(
+    bench: &mut Bench,
+    name: &str,
+    selected: [u8; 8],
+    turns: &[Turn],
+    after: [u32; SESSION],
+) -> Result<(), String> {
+    bench.fill();
+    let items: Vec<Item> = turns.iter().map(|(item, _)| item.clone()).collect();
+    let rows = bench.run_fresh(SERIAL_DIRECTLY, selected, &items)?;
+    for (index, (row, (_, printed))) in rows.iter().zip(turns).enumerate() {
+        if row != printed {
+            let lines = numbers(row, printed, answer_name);
+            return Err(format!(
+                "{name}, item {} of\n{items:X?}\n{lines}",
+                index + 1
+            ));
+        }
+    }
+    if bench.numbers() != after {
+        let lines = numbers(&bench.numbers(), &after, session_name);
+        return Err(format!("{name}, the session after\n{items:X?}\n{lines}"));
+    }
+    Ok(())
+}
+
+fn numbers(ours: &[u32], printed: &[u32], name: fn(usize) -> String) -> String {
+    let mut text = format!("  {:<16} {:<24} printed\n", "", "ours");
+    for (index, (ours, printed)) in ours.iter().zip(printed).enumerate() {
+        let [ours, printed] = [ours, printed].map(|number| format!("{number:#x}"));
+        text += &line(&name(index), &ours, &printed);
+    }
+    text
+}
+
+/// 01, the cases P1 to P9, "Run:", the slips, and the items of the capture.
+pub fn trials(bench: &mut Bench) -> Result<(), String> {
+    #[rustfmt::skip]
+    let headers: [(&str, [u8; 8], u32, [u32; 3]); 11] = [
+        // Start, VLE and length of those that are accepted.
+        ("P1", [0x40, 0x00, 0x00, 0x00, 0x80, 0x00, 0x14, 0x00], 0, [0x4000_0000, 1, 5_120]),
+        ("P2", [0x40, 0x00, 0x00, 0x00, 0x00, 0x01, 0x00, 0x00], 0, [0x4000_0000, 0, 65_536]),
+        ("P3", [0x40, 0x00, 0x00, 0x00, 0x00, 0x01, 0x00, 0x01], 4, [0; 3]),
+        ("P4", [0x40, 0x00, 0xFF, 0xFC, 0x00, 0x00, 0x00, 0x04], 0, [0x4000_FFFC, 0, 4]),
+        ("P5", [0x40, 0x00, 0xFF, 0xFC, 0x00, 0x00, 0x00, 0x05], 4, [0; 3]),
+        ("P6", [0x40, 0x00, 0x00, 0x03, 0x00, 0x00, 0x00, 0x01], 0, [0x4000_0000, 0, 1]),
+        ("P7", [0x3F, 0xFF, 0xFF, 0xFF, 0x00, 0x00, 0x00, 0x01], 4, [0; 3]),
+        ("P8", [0x00, 0x00, 0x00, 0x00, 0x00, 0x00, 0x00, 0x00], 3, [0; 3]),
+        // Dropping the low address bits after the range test.
+        ("slip", [0x40, 0x00, 0x00, 0x01, 0x00, 0x01, 0x00, 0x00], 0, [0x4000_0000, 0, 65_536]),
+        ("slip", [0x40, 0x00, 0xFF, 0xFF, 0x80, 0x00, 0x00, 0x04], 0, [0x4000_FFFC, 1, 4]),
+        ("slip", [0x40, 0x00, 0xFF, 0xFF, 0x80, 0x00, 0x00, 0x05], 4, [0; 3]),
+    ];
+    for port in [CAN, SERIAL] {
+        let password = sent(port, 0x011, &PUBLIC, 0);
+        for (name, header, number, [start, vle, length]) in headers {
+            let turns = [&password[..], &sent(port, 0x012, &header, number)].concat();
+            let after = match number {
+                0 => session(PUBLIC, 3, port, [start, vle, start, length, 0]),
+                _ => session(PUBLIC, 4, 0, [0, 0, 0, 0, number]),
+            };
+            exchange(bench, name, PUBLIC, &turns, after)?;
+        }
+        for (name, password) in [
+            ("P9", *b"\xFE\xED\x00\x00\xCA\xFE\xBE\xEF"),
+            // Passing as the flash holds the same.
+            ("slip", *b"\xFF\xFF\xFA\xCE\xCA\xFE\xBE\xEF"),
+            ("slip", *b"\xFE\xED\xFF\xFF\xCA\xFE\xBE\xEF"),
+            ("slip", *b"\xFE\xED\xFA\xCE\xFF\xFF\xBE\xEF"),
+            ("slip", *b"\xFE\xED\xFA\xCE\xCA\xFE\xFF\xFF"),
+        ] {
+            let turns = sent(port, 0x011, &password, 2);
+            let after = session(password, 4, 0, [0, 0, 0, 0, 2]);
+            exchange(bench, name, password, &turns, after)?;
+        }
+    }
+
+    // Run: owed 3 and a 0x013 of 4 bytes, of which no part is stored either.
+    let turns = [
+        sent(CAN, 0x011, &PUBLIC, 0),
+        sent(CAN, 0x012, &header(0x4000_0000, 8), 0),
+        sent(CAN, 0x013, &[1, 2, 3, 4, 5], 0),
+        vec![(frame(0x013, &[6, 7, 8, 9]), IGNORED)],
+    ]
+    .concat();
+    let after = session(PUBLIC, 3, CAN, [0x4000_0000, 0, 0x4000_0005, 3, 0]);
+    exchange(bench, "owed 3, 4 bytes", PUBLIC, &turns, after)?;
+
+    // Run: a second 0x011.
+    let second = vec![(frame(0x011, &PUBLIC), IGNORED)];
+    let turns = [
+        sent(CAN, 0x011, &PUBLIC, 0),
+        second.clone(),
+        sent(CAN, 0x012, &header(0x4000_0000, 8), 0),
+        second,
+    ]
+    .concat();
+    let after = session(PUBLIC, 2, CAN, [0; 5]);
+    exchange(bench, "a second 0x011", PUBLIC, &turns[..2], after)?;
+    let after = session(PUBLIC, 3, CAN, [0x4000_0000, 0, 0x4000_0000, 8, 0]);
+    exchange(bench, "a second 0x011", PUBLIC, &turns, after)?;
+
+    // A faulty byte does not open the serial port.
+    let turns = [
+        vec![(faulty(0xFE), IGNORED)],
+        sent(CAN, 0x011, &PUBLIC, 0),
+        vec![(clean(0xFE), IGNORED)],
+    ]
+    .concat();
+    let after = session(PUBLIC, 0, 0, [0; 5]);
+    exchange(bench, "faulty first", PUBLIC, &turns[..1], after)?;
+    let after = session(PUBLIC, 2, CAN, [0; 5]);
+    exchange(bench, "faulty first", PUBLIC, &turns, after)?;
+
+    // The items of the capture.
+    let turns = [
+        sent(SERIAL, 0, &[0xFE], 0),
+        vec![(frame(0x012, &[0xAA, 0xBB]), IGNORED)],
+    ]
+    .concat();
+    let mut after = session(PUBLIC, 1, SERIAL, [0; 5]);
+    after[10] = 1;
+    after[11] = 0xFE;
+    exchange(bench, "the capture", PUBLIC, &turns, after)
+}
+
+/// 002: CAN without VLE (Tables 7 to 12) and with it (Table 14), and serial (Table 13).
+/// The echo is the data as received: Table 8 misprints one byte of it.
+pub fn document_002(bench: &mut Bench) -> Result<(), String> {
+    let mut random = Random::new(0x1400);
+    let program: Vec<u8> = (0..0x1400).map(|_| random.byte()).collect();
+    for (name, port, size, vle) in [
+        ("002, Tables 7 to 12", CAN, 0x00, 0),
+        ("002, Table 14", CAN, 0x80, 1),
+        ("002, Table 13", SERIAL, 0x80, 1),
+    ] {
+        let header = [0x40, 0x00, 0x00, 0x00, size, 0x00, 0x14, 0x00];
+        let mut turns = [sent(port, 0x011, &PUBLIC, 0), sent(port, 0x012, &header, 0)].concat();
+        for data in program.chunks(8) {
+            turns.extend(sent(port, 0x013, data, 0));
+        }
+        let (_, last) = turns.last_mut().unwrap();
+        last[0] = 5;
+        last[JUMP] = 0x4000_0000;
+        last[JUMP_VLE] = vle;
+        let after = session(PUBLIC, 5, 0, [0x4000_0000, vle, 0, 0, 0]);
+        exchange(bench, name, PUBLIC, &turns, after)?;
+        if bench.sram()[..0x1400] != program {
+            return Err(format!("{name}: SRAM does not have the program\n"));
+        }
+    }
+    Ok(())
+}

@@ -1,0 +1,202 @@
+//! The reference's sessions and answers as the header's numbers.
+
+use reference::session::{Answer, Item, Port, Session, Stage};
+
+/// How many numbers a session and an answer have.
+pub const SESSION: usize = 24;
+pub const ANSWER: usize = 13;
+
+pub type Row = [u32; ANSWER];
+
+// Where the numbers of a session stand, after the 8 bytes of the password selected.
+pub const STAGE: usize = 8;
+pub const PORT: usize = 9;
+pub const COUNT: usize = 10;
+pub const HELD: usize = 11;
+pub const START: usize = 19;
+pub const VLE: usize = 20;
+pub const NEXT: usize = 21;
+pub const OWED: usize = 22;
+pub const REFUSAL: usize = 23;
+
+// Where the numbers of an answer stand, after its number.
+pub const ECHO_IDENTIFIER: usize = 1;
+pub const ECHO_LENGTH: usize = 2;
+pub const ECHO: usize = 3;
+pub const JUMP: usize = 11;
+pub const JUMP_VLE: usize = 12;
+
+/// A session of the reference with the header's 8 places for held bytes. While a
+/// password or header fills up, the places behind keep what they had; once it is
+/// complete, all are 0. Nothing else changes them.
+#[derive(Clone)]
+pub struct Head {
+    pub session: Session,
+    places: [u8; 8],
+}
+
+impl Head {
+    pub fn fresh(selected: [u8; 8]) -> Self {
+        Head {
+            session: Session::fresh(selected),
+            places: [0; 8],
+        }
+    }
+
+    /// The session that has these numbers, sound or not. There is none if a number is
+    /// out of its range, or one that the stage does not have is not 0.
+    pub fn of(numbers: &[u32]) -> Option<Self> {
+        let numbers: &[u32; SESSION] = numbers.try_into().ok()?;
+        let port = match numbers[PORT] {
+            0 => Port::Can,
+            1 => Port::Serial,
+            _ => return None,
+        };
+        let (start, vle) = (numbers[START], numbers[VLE] == 1);
+        let stage = match numbers[STAGE] {
+            0 => Stage::Waiting,
+            1 => Stage::Password { port },
+            2 => Stage::Header { port },
+            3 => Stage::Data {
+                port,
+                start,
+                vle,
+                next: numbers[NEXT],
+                owed: numbers[OWED],
+            },
+            4 => Stage::Stopped {
+                number: (2..=4).find(|&number| numbers[REFUSAL] == u32::from(number))?,
+            },
+            5 => Stage::Jumped { start, vle },
+            _ => return None,
+        };
+        let places = octets(&numbers[HELD..]);
+        let held = places.get(..numbers[COUNT] as usize)?.to_vec();
+        let head = Head {
+            session: Session {
+                selected: octets(numbers),
+                stage,
+                held,
+            },
+            places,
+        };
+        (head.numbers() == *numbers).then_some(head)
+    }
+
+    /// In the order of boot_assist_session_number.
+    pub fn numbers(&self) -> [u32; SESSION] {
+        let port_number = |port| u32::from(port == Port::Serial);
+        let mut numbers = [0; SESSION];
+        put(&mut numbers, &self.session.selected);
+        put(&mut numbers[HELD..], &self.places);
+        numbers[COUNT] = self.session.held.len() as u32;
+        numbers[STAGE] = match self.session.stage {
+            Stage::Waiting => 0,
+            Stage::Password { port } => {
+                numbers[PORT] = port_number(port);
+                1
+            }
+            Stage::Header { port } => {
+                numbers[PORT] = port_number(port);
+                2
+            }
+            Stage::Data {
+                port,
+                start,
+                vle,
+                next,
+                owed,
+            } => {
+                numbers[PORT] = port_number(port);
+                numbers[START] = start;
+                numbers[VLE] = vle.into();
+                numbers[NEXT] = next;
+                numbers[OWED] = owed;
+                3
+            }
+            Stage::Stopped { number } => {
+                numbers[REFUSAL] = number.into();
+                4
+            }
+            Stage::Jumped { start, vle } => {
+                numbers[START] = start;
+                numbers[VLE] = vle.into();
+                5
+            }
+        };
+        numbers
+    }
+
+    pub fn item(&mut self, sram: &mut [u8], item: &Item) -> Answer {
+        let fills = !matches!(self.session.stage, Stage::Data { .. });
+        let answer = self.session.item(sram, item);
+        if fills && answer.echo.is_some() {
+            match &self.session.held[..] {
+                [] => self.places = [0; 8],
+                held => self.places[..held.len()].copy_from_slice(held),
+            }
+        }
+        answer
+    }
+}
+
+/// In the order of boot_assist_answer. Places behind the echo are 0.
+pub fn row(answer: &Answer) -> Row {
+    let mut row = only(answer.number);
+    if let Some(echo) = &answer.echo {
+        row[ECHO_IDENTIFIER] = echo.identifier.unwrap_or(0);
+        row[ECHO_LENGTH] = echo.data.len() as u32;
+        put(&mut row[ECHO..], &echo.data);
+    }
+    if let Some((start, vle)) = answer.jump {
+        row[JUMP] = start;
+        row[JUMP_VLE] = vle.into();
+    }
+    row
+}
+
+/// The number alone.
+pub fn only(number: u8) -> Row {
+    let mut row = [0; ANSWER];
+    row[0] = number.into();
+    row
+}
+
+fn put(numbers: &mut [u32], bytes: &[u8]) {
+    for (number, &byte) in numbers.iter_mut().zip(bytes) {
+        *number = byte.into();
+    }
+}
+
+/// The low bytes of the first 8 numbers.
+fn octets(numbers: &[u32]) -> [u8; 8] {
+    std::array::from_fn(|index| numbers[index] as u8)
+}
+
+pub fn session_name(index: usize) -> String {
+    match index {
+        0..STAGE => format!("selected {index}"),
+        HELD..START => format!("held {}", index - HELD),
+        STAGE => "stage".into(),
+        PORT => "port".into(),
+        COUNT => "count".into(),
+        START => "start".into(),
+        VLE => "VLE".into(),
+        NEXT => "next".into(),
+        OWED => "owed".into(),
+        REFUSAL => "refusal".into(),
+        _ => format!("beyond, {index}"),
+    }
+}
+
+pub fn answer_name(index: usize) -> String {
+    match index {
+        0 => "number".into(),
+        ECHO_IDENTIFIER => "echo identifier".into(),
+        ECHO_LENGTH => "echo length".into(),
+        ECHO..JUMP => format!("echo {}", index - ECHO),
+        JUMP => "jump".into(),
+        JUMP_VLE => "jump VLE".into(),
+        _ => format!("beyond, {index}"),
+    }
+}

@@ -1,0 +1,411 @@
+//! The serial session: systematic inputs, random lists of items and random sessions.
+
+use crate::bench::{Bench, Lengths, Parts, BASE, RIGHT, SESSION_MAX, SRAM, SRAM_MAX};
+use crate::exchanges;
+use crate::making::{clean, faulty, frame, header, Maker, END, PUBLIC};
+use crate::numbers::{ANSWER, COUNT, HELD, NEXT, OWED, PORT, REFUSAL, SESSION, STAGE, START, VLE};
+use crate::random::Random;
+use crate::Tally;
+use reference::session::{Item, Port};
+
+/// Compares the systematic inputs, then `count` random lists and as many random
+/// sessions, then large loads. An error is the report of the first difference.
+pub fn run(mut random: Random, count: u64, tally: &mut Tally) -> Result<(), String> {
+    let mut run = Run {
+        bench: Bench::new(Random::new(random.number()), tally),
+        maker: Maker::new(random),
+    };
+    run.fresh_sessions()?;
+    exchanges::trials(&mut run.bench)?;
+    run.frames()?;
+    run.bytes()?;
+    run.lengths()?;
+    run.soundness()?;
+    run.list_forms()?;
+
+    run.bench.at_random = true;
+    let mut lists = 0;
+    while lists < count {
+        lists += run.random_lists()?;
+    }
+    for _ in 0..count {
+        run.random_session()?;
+    }
+    run.bench.at_random = false;
+
+    exchanges::document_002(&mut run.bench)?;
+    run.large_loads()
+}
+
+/// A sound session of each stage and port, data stages also with few bytes owed.
+fn samples() -> Vec<[u32; SESSION]> {
+    let sample = |stage, port, count, [start, vle, next, owed, refusal]: [u32; 5]| {
+        let mut numbers = [0; SESSION];
+        for (number, byte) in numbers.iter_mut().zip(PUBLIC) {
+            *number = byte.into();
+        }
+        numbers[STAGE] = stage;
+        numbers[PORT] = port;
+        numbers[COUNT] = count;
+        for (at, number) in (HELD..).zip([0xFE, 0xED, 0xFA, 0xCE, 0xCA, 0xFE, 0xBE]) {
+            numbers[at] = if at < HELD + count as usize {
+                number
+            } else {
+                0
+            };
+        }
+        numbers[START..].copy_from_slice(&[start, vle, next, owed, refusal]);
+        numbers
+    };
+    let mut samples = vec![
+        sample(0, 0, 0, [0; 5]),
+        sample(1, 1, 1, [0; 5]),
+        sample(1, 1, 7, [0; 5]),
+        sample(2, 0, 0, [0; 5]),
+        sample(2, 1, 0, [0; 5]),
+        sample(2, 1, 7, [0; 5]),
+        sample(4, 0, 0, [0, 0, 0, 0, 2]),
+        sample(4, 0, 0, [0, 0, 0, 0, 3]),
+        sample(4, 0, 0, [0, 0, 0, 0, 4]),
+        sample(5, 0, 0, [BASE + 8, 1, 0, 0, 0]),
+    ];
+    for port in [0, 1] {
+        for (next, owed) in [(BASE + 8, 20), (BASE + 13, 3), (END - 1, 1), (END - 8, 8)] {
+            samples.push(sample(3, port, 0, [BASE + 8, 1, next, owed, 0]));
+        }
+    }
+    samples
+}
+
+struct Run<'a> {
+    bench: Bench<'a>,
+    maker: Maker,
+}
+
+impl Run<'_> {
+    fn call(&mut self, numbers: &[u32], item: &Item, lengths: Lengths) -> Result<(), String> {
+        self.bench.fill();
+        self.bench.set(numbers);
+        self.bench.call(item, lengths).map(|_| ())
+    }
+
+    /// Every mode, with password and output lengths about the right ones.
+    fn fresh_sessions(&mut self) -> Result<(), String> {
+        for mode in 0..=255 {
+            for password_len in 0..=9 {
+                self.bench.fill();
+                let password = self.maker.bytes(password_len);
+                for session_len in [0, 8].into_iter().chain(20..=28) {
+                    self.bench.fresh(mode, &password, session_len)?;
+                }
+            }
+        }
+        for _ in 0..1_000 {
+            self.bench.fill();
+            let (mode, selected) = (self.maker.mode(), self.maker.selected());
+            self.bench.fresh(mode, &selected, SESSION)?;
+        }
+        Ok(())
+    }
+
+    /// In each stage every identifier, and every count about those that are taken or
+    /// would be if they were cut to 8 or 16 bits.
+    fn frames(&mut self) -> Result<(), String> {
+        let counts = || (0..=17).chain(255..=265).chain(65_536..=65_544);
+        let beyond = [0x800, 0x811, 0x812, 0x813, 0x1_0011, 0x8000_0013, !0];
+        for numbers in samples() {
+            for identifier in (0..0x800).chain(beyond) {
+                let count = self.maker.random.pick(&[1, 3, 8, 8]);
+                let data = self.maker.bytes(count);
+                self.call(&numbers, &frame(identifier, &data), RIGHT)?;
+            }
+            for identifier in [0x011, 0x012, 0x013] {
+                for count in counts() {
+                    let data = self.maker.bytes(count);
+                    self.call(&numbers, &frame(identifier, &data), RIGHT)?;
+                }
+                self.call(&numbers, &frame(identifier, &PUBLIC), RIGHT)?;
+                let header = header(END - 3, 4);
+                self.call(&numbers, &frame(identifier, &header), RIGHT)?;
+            }
+        }
+        Ok(())
+    }
+
+    /// In each stage every byte, clean and faulty.
+    fn bytes(&mut self) -> Result<(), String> {
+        for numbers in samples() {
+            for byte in 0..=255 {
+                self.call(&numbers, &clean(byte), RIGHT)?;
+                self.call(&numbers, &faulty(byte), RIGHT)?;
+            }
+        }
+        Ok(())
+    }
+
+    /// In each stage the lengths of session, SRAM and answer, each right and wrong, with
+    /// items and lists that would be answered and that would not: 7, 8, 6, 9 in order.
+    fn lengths(&mut self) -> Result<(), String> {
+        let items = [
+            frame(0x011, &PUBLIC),
+            frame(0x012, &header(BASE, 1)),
+            frame(0x013, &[0xA5]),
+            frame(0x800, &[]),
+            frame(0x013, &[0; 9]),
+            clean(0xFE),
+            faulty(0xFE),
+        ];
+        for numbers in samples() {
+            for sram in [0, 1, SRAM - 1, SRAM, SRAM + 1, SRAM_MAX] {
+                for session in [0, 8, SESSION - 1, SESSION, SESSION + 1, SESSION_MAX] {
+                    for answer in [0, 1, ANSWER - 1, ANSWER, ANSWER + 1] {
+                        let lengths = Lengths {
+                            session,
+                            sram,
+                            answer,
+                        };
+                        for item in &items {
+                            self.call(&numbers, item, lengths)?;
+                        }
+                    }
+                    let lengths = Lengths {
+                        session,
+                        sram,
+                        answer: 0,
+                    };
+                    let mut parts = Parts::of(&items, &mut self.maker.random);
+                    self.bench.refused_list(&parts, lengths)?;
+                    parts.bytes.push(0);
+                    self.bench.refused_list(&parts, lengths)?;
+                }
+            }
+        }
+        Ok(())
+    }
+
+    /// Each number of a session at its edges: the stages with every count and port, each
+    /// other number in every stage, the load, and bytes above 255.
+    fn soundness(&mut self) -> Result<(), String> {
+        let counts = || (0..=9).chain([0xFF, 0x100, 0x101]);
+        for numbers in samples() {
+            for count in counts() {
+                for port in 0..=2 {
+                    for stage in 0..=6 {
+                        let mut numbers = numbers;
+                        numbers[STAGE] = stage;
+                        numbers[PORT] = port;
+                        numbers[COUNT] = count;
+                        self.both_ports(&numbers)?;
+                    }
+                }
+            }
+            for at in [STAGE, PORT, COUNT, START, VLE, NEXT, OWED, REFUSAL] {
+                for number in [0, 1, 2, 3, 4, 5, 6, 0x100, 0x101, 0x102, BASE, END, !0] {
+                    let mut numbers = numbers;
+                    numbers[at] = number;
+                    self.both_ports(&numbers)?;
+                }
+            }
+            for at in (0..STAGE).chain(HELD..START) {
+                for number in [0, 0xFF, 0x100, 0x100 + numbers[at], !0] {
+                    let mut numbers = numbers;
+                    numbers[at] = number;
+                    self.both_ports(&numbers)?;
+                }
+            }
+        }
+        let load = samples().pop().unwrap();
+        let addresses = [
+            0,
+            BASE - 4,
+            BASE - 1,
+            BASE,
+            BASE + 1,
+            BASE + 4,
+            BASE + 7,
+            END - 4,
+            END - 1,
+            END,
+            !3,
+            !0,
+        ];
+        for start in addresses {
+            for next in addresses {
+                let to_end = END.wrapping_sub(next);
+                for owed in [0, 1, to_end, to_end.wrapping_add(1), !next, 1 << 31, !0] {
+                    let mut numbers = load;
+                    numbers[START] = start;
+                    numbers[NEXT] = next;
+                    numbers[OWED] = owed;
+                    self.both_ports(&numbers)?;
+                }
+            }
+        }
+        Ok(())
+    }
+
+    fn both_ports(&mut self, numbers: &[u32; SESSION]) -> Result<(), String> {
+        self.call(numbers, &frame(0x013, &[0xA5]), RIGHT)?;
+        self.call(numbers, &clean(0xA5), RIGHT)
+    }
+
+    /// Lists whose parts do not fit: each kind, count and length about the right ones.
+    fn list_forms(&mut self) -> Result<(), String> {
+        let items = [
+            clean(0xFE),
+            frame(0x011, &PUBLIC),
+            faulty(0x01),
+            frame(0x013, &[]),
+            frame(0x800, &[0; 9]),
+            clean(0xED),
+        ];
+        for numbers in samples() {
+            self.bench.fill();
+            self.bench.set(&numbers);
+            self.bench.run(&[])?;
+            self.bench.run(&items)?;
+            let right = Parts::of(&items, &mut self.maker.random);
+            let mut refused = Vec::new();
+            for at in 0..items.len() {
+                for kind in 0..=255 {
+                    let mut parts = right.clone();
+                    parts.kinds[at] = kind;
+                    refused.push(parts);
+                }
+                // With the bytes that are there, and with the bytes that it asks for.
+                for count in (0..=10).chain([0x100, 0x101, 0x108, !0]) {
+                    let mut parts = right.clone();
+                    parts.counts[at] = count;
+                    refused.push(parts.clone());
+                    let sum: u64 = parts.counts.iter().map(|&count| u64::from(count)).sum();
+                    parts.bytes.resize((sum as usize).min(1_000), 0xA5);
+                    refused.push(parts);
+                }
+            }
+            for answers in 0..=right.answers + ANSWER + 1 {
+                let mut parts = right.clone();
+                parts.answers = answers;
+                refused.push(parts);
+            }
+            for length in 0..=2 * items.len() {
+                for which in 1..8 {
+                    let mut parts = right.clone();
+                    if which & 1 != 0 {
+                        parts.kinds.resize(length, 1);
+                    }
+                    if which & 2 != 0 {
+                        parts.identifiers.resize(length, 0x011);
+                    }
+                    if which & 4 != 0 {
+                        parts.counts.resize(length, 0);
+                    }
+                    refused.push(parts);
+                }
+            }
+            for length in 0..=2 * right.bytes.len() {
+                let mut parts = right.clone();
+                parts.bytes.resize(length, 0xA5);
+                refused.push(parts);
+            }
+            for parts in &refused {
+                self.bench.refused_list(parts, RIGHT)?;
+            }
+        }
+        Ok(())
+    }
+
+    /// Lists with resets between them, which SRAM outlasts. Answers how many.
+    fn random_lists(&mut self) -> Result<u64, String> {
+        self.bench.fill();
+        let count = self.maker.random.pick(&[1, 1, 2, 3]);
+        for _ in 0..count {
+            let (mode, selected) = (self.maker.mode(), self.maker.selected());
+            let items = self.maker.list(selected);
+            self.bench.run_fresh(mode, selected, &items)?;
+            if self.maker.random.chance(4) {
+                self.refused(&items)?;
+            }
+        }
+        Ok(count)
+    }
+
+    /// A random session. If it is sound, items are run on it.
+    fn random_session(&mut self) -> Result<(), String> {
+        let numbers = self.maker.session();
+        self.bench.fill();
+        self.bench.set(&numbers);
+        let Some(head) = self.bench.head() else {
+            let items = [self.maker.item(), self.maker.item()];
+            for item in &items {
+                self.bench.call(item, RIGHT)?;
+            }
+            return self.refused(&items);
+        };
+        let items = self.maker.items(head);
+        if self.maker.random.chance(2) {
+            self.refused(&items)?;
+        }
+        self.bench.run(&items)
+    }
+
+    /// A call and a list that are refused, in the session at hand.
+    fn refused(&mut self, items: &[Item]) -> Result<(), String> {
+        let lengths = self.maker.lengths();
+        if lengths != RIGHT {
+            let item = self.maker.item();
+            self.bench.call(&item, lengths)?;
+        }
+        let mut parts = Parts::of(items, &mut self.maker.random);
+        for _ in 0..self.maker.random.pick(&[0, 1, 1, 1, 2]) {
+            self.maker.bend_parts(&mut parts);
+        }
+        let lengths = match self.maker.random.below(3) {
+            0 => self.maker.lengths(),
+            _ => RIGHT,
+        };
+        self.bench.refused_list(&parts, lengths).map(|_| ())
+    }
+
+    /// Loads of all of SRAM, to its end, and over it by one, by both ports.
+    fn large_loads(&mut self) -> Result<(), String> {
+        for (start, length) in [
+            (BASE, 65_536),
+            (BASE + 3, 65_536),
+            (BASE + 4, 65_532),
+            (END - 4_096, 4_096),
+            (END - 4_093, 4_096),
+            (END - 4_096, 4_095),
+            (BASE, 65_537),
+            (BASE + 4, 65_533),
+            (END - 4_096, 4_097),
+        ] {
+            for port in [Port::Can, Port::Serial] {
+                for vle in [0, 1 << 31] {
+                    let header = header(start, vle | length);
+                    self.large_load(port, header, length as usize)?;
+                }
+            }
+        }
+        Ok(())
+    }
+
+    fn large_load(&mut self, port: Port, header: [u8; 8], length: usize) -> Result<(), String> {
+        let data = self.maker.bytes(length);
+        let bytes = self.maker.random.pick(&[5, 7, 8]);
+        let mut items: Vec<Item> = match port {
+            Port::Can => {
+                let data = data.chunks(bytes).map(|data| frame(0x013, data));
+                let before = [frame(0x011, &PUBLIC), frame(0x012, &header)];
+                before.into_iter().chain(data).collect()
+            }
+            Port::Serial => {
+                let bytes = [&PUBLIC[..], &header, &data].concat();
+                bytes.into_iter().map(clean).collect()
+            }
+        };
+        items.extend([frame(0x013, &[0xA5]), clean(0xA5)]);
+        self.bench.fill();
+        let mode = self.maker.mode();
+        self.bench.run_fresh(mode, PUBLIC, &items).map(|_| ())
+    }
+}

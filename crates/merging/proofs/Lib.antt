@@ -1,0 +1,6 @@
+pub mod Deaf
+pub mod Splitting
+pub mod Forward
+pub mod Stream
+pub mod Handing
+pub mod Claiming

@@ -1,0 +1,4 @@
+pub mod Running
+pub mod Plain
+pub mod Merging
+pub mod Listing

@@ -1,0 +1,89 @@
+-- A list of items handed in as flat lists of numbers, and what the call that runs it answers and leaves.
+use Prim.Native.Nat.{ℕ, _*_, _-_}
+use mathlib.Core.Path.{_≡_}
+use mathlib.Core.List.{List, [], _∷_, _++_}
+use mathlib.Core.Bool.{Bool, true, cond, _&&_, _||_}
+use lib.Dec.{leb, eqb}
+use lib.ListN.{length, take, drop, getD}
+use Rattle.octets.specs.Read.{byteAt}
+use Rattle.sram.specs.Region.{rightSize}
+use Rattle.session.specs.declared.Answer.{Answer}
+use Rattle.session.specs.declared.Session.{Session}
+use Rattle.session.specs.Fresh.{freshSession}
+use Rattle.session.specs.Items.{Item}
+use Rattle.session.specs.Sound.{sound}
+use Rattle.numbers.specs.Writing.{answerNumbers}
+use Rattle.merging.specs.declared.ListReply.{ListReply}
+use Rattle.merging.specs.Running.{Run, ran}
+use Rattle.merging.specs.Merging.{Merging}
+
+-- kind 1 is a CAN frame, 2 a clean and 3 a faulty serial byte (01, "The truck's capture file")
+unfoldable pub itemOf : ℕ → ℕ → List ℕ → Item
+itemOf kind identifier part = cond (eqb kind 1) (Item.Frame identifier part) (Item.Byte (byteAt part 0) (eqb kind 3))
+
+-- the items in order: each has a kind, an identifier and so many of the bytes as its count says
+unfoldable pub itemsOf : List ℕ → List ℕ → List ℕ → List ℕ → List Item
+itemsOf [] identifiers counts bytes = []
+itemsOf (kind ∷ kinds) identifiers counts bytes =
+    itemOf kind (getD identifiers 0 0) (take (getD counts 0 0) bytes)
+    ∷ itemsOf kinds (drop 1 identifiers) (drop 1 counts) (drop (getD counts 0 0) bytes)
+
+-- an item of each kind has a count that fits: a frame any, a serial byte 1
+abbrev pub kindFits : ℕ → ℕ → Bool
+kindFits kind count = eqb kind 1 || (eqb kind 2 || eqb kind 3) && eqb count 1
+
+-- each kind fits, and the counts add up to the bytes
+unfoldable pub partsFit : List ℕ → List ℕ → ℕ → Bool
+partsFit [] counts left = eqb left 0
+partsFit (kind ∷ kinds) counts left =
+    kindFits kind (getD counts 0 0)
+    && leb (getD counts 0 0) left
+    && partsFit kinds (drop 1 counts) (left - getD counts 0 0)
+
+-- an identifier and a count for each kind, and room for 13 numbers of each answer
+abbrev pub listFits : List ℕ → List ℕ → List ℕ → ℕ → ℕ → Bool
+listFits kinds identifiers counts bytes room =
+    eqb (length identifiers) (length kinds)
+    && eqb (length counts) (length kinds)
+    && eqb room (13 * length kinds)
+    && partsFit kinds counts bytes
+
+-- the numbers of the answers, one answer's behind another's
+unfoldable pub answerRows : List Answer → List ℕ
+answerRows [] = []
+answerRows (answer ∷ answers) = answerNumbers answer ++ answerRows answers
+
+-- the call: its number, and the session, SRAM and the answers' numbers as it leaves them
+pub record ListAfter : Type 0 where
+  pub number : ℕ
+  pub session : Session
+  pub sram : List ℕ
+  pub answers : List ℕ
+
+abbrev pub asListAfter : ℕ → Session → List ℕ → List ℕ → ListAfter
+asListAfter number session sram answers =
+    record { number = number; session = session; sram = sram; answers = answers }
+
+-- number 0: "another call answered"
+abbrev pub listRan : Run → ListAfter
+listRan run = asListAfter 0 (run .session) (run .sram) (answerRows (run .answers))
+
+-- 7, then 8, then 6 for lists that do not fit each other; a refused call changes nothing
+unfoldable pub listAfter : Session → List ℕ → List ℕ → List ℕ → List ℕ → List ℕ → List ℕ → ListAfter
+listAfter session sram kinds identifiers counts bytes answers =
+    cond (rightSize sram)
+    (cond (sound session)
+    (cond (listFits kinds identifiers counts (length bytes) (length answers))
+    (listRan (ran session sram (itemsOf kinds identifiers counts bytes)))
+    (asListAfter 6 session sram answers))
+    (asListAfter 8 session sram answers))
+    (asListAfter 7 session sram answers)
+
+-- what `merging::run` promises of its number, session, SRAM and answers
+pub record ListClaim
+    (session : Session) (sram kinds identifiers counts bytes answers : List ℕ) (leaves : ListAfter)
+    : Type 0 where
+  pub equation : leaves ≡ listAfter session sram kinds identifiers counts bytes answers
+  -- demand 3, where the session is fresh and SRAM of the right size
+  pub demand-3 : session ≡ freshSession (session .selected) → rightSize sram ≡ true
+      → Merging (session .selected) sram (itemsOf kinds identifiers counts bytes)

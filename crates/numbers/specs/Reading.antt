@@ -1,0 +1,75 @@
+-- The session of a list of numbers. Of numbers that no session has, what is read is of no account: `encodes` tells.
+use Prim.Native.Nat.{ℕ, _+_, _%_}
+use mathlib.Core.List.{List, [], _∷_}
+use mathlib.Core.Bool.{Bool, cond}
+use lib.Dec.{eqb}
+use lib.ListN.{getD}
+use Rattle.octets.specs.Same.{same}
+use Rattle.session.specs.declared.Jump.{Jump}
+use Rattle.session.specs.declared.Load.{Load}
+use Rattle.session.specs.declared.Port.{Port}
+use Rattle.session.specs.declared.Refusal.{Refusal}
+use Rattle.session.specs.declared.Session.{Session}
+use Rattle.session.specs.declared.Stage.{Stage}
+use Rattle.numbers.specs.Writing.{sessionNumbers}
+
+-- the number at a place, and as a byte
+abbrev pub numberAt : List ℕ → ℕ → ℕ
+numberAt numbers at = getD numbers at 0
+
+abbrev pub byteIn : List ℕ → ℕ → ℕ
+byteIn numbers at = numberAt numbers at % 256
+
+-- eight bytes from a place on
+abbrev pub eightIn : List ℕ → ℕ → List ℕ
+eightIn numbers at =
+    byteIn numbers at
+    ∷ byteIn numbers (at + 1)
+    ∷ byteIn numbers (at + 2)
+    ∷ byteIn numbers (at + 3)
+    ∷ byteIn numbers (at + 4)
+    ∷ byteIn numbers (at + 5)
+    ∷ byteIn numbers (at + 6)
+    ∷ byteIn numbers (at + 7)
+    ∷ []
+
+unfoldable pub portRead : List ℕ → Port
+portRead numbers = cond (eqb (numberAt numbers 9) 0) Port.Can Port.Serial
+
+abbrev pub loadRead : List ℕ → Load
+loadRead numbers =
+    record {
+      start = record { 0 = numberAt numbers 19 };
+      vle = eqb (numberAt numbers 20) 1;
+      next = numberAt numbers 21;
+      owed = numberAt numbers 22;
+    }
+
+unfoldable pub refusalRead : List ℕ → Refusal
+refusalRead numbers =
+    cond (eqb (numberAt numbers 23) 2) Refusal.Password (cond (eqb (numberAt numbers 23) 3) Refusal.Length Refusal.Range)
+
+abbrev pub jumpRead : List ℕ → Jump
+jumpRead numbers = record { start = record { 0 = numberAt numbers 19 }; vle = eqb (numberAt numbers 20) 1 }
+
+unfoldable pub stageRead : List ℕ → Stage
+stageRead numbers =
+    cond (eqb (numberAt numbers 8) 0) Stage.Waiting
+    (cond (eqb (numberAt numbers 8) 1) Stage.Password
+    (cond (eqb (numberAt numbers 8) 2) (Stage.Header (portRead numbers))
+    (cond (eqb (numberAt numbers 8) 3) (Stage.Data (portRead numbers) (loadRead numbers))
+    (cond (eqb (numberAt numbers 8) 4) (Stage.Stopped (refusalRead numbers))
+    (Stage.Jumped (jumpRead numbers))))))
+
+abbrev pub sessionRead : List ℕ → Session
+sessionRead numbers =
+    record {
+      selected = eightIn numbers 0;
+      stage = stageRead numbers;
+      held = eightIn numbers 11;
+      count = byteIn numbers 10;
+    }
+
+-- numbers that are those of the session that they read as
+unfoldable pub encodes : List ℕ → Bool
+encodes numbers = same (sessionNumbers (sessionRead numbers)) numbers

@@ -1,0 +1,282 @@
+-- What a call does where neither 7 nor 8 is due, and that neither is due after it.
+use Prim.Native.Nat.{ℕ, _+_, _-_, _≤_, _<_}
+use native.Mathlib.Omega.{arith}
+use mathlib.Core.Path.{_≡_, refl, sym, ap, _∙_}
+use mathlib.Core.List.{List, [], _∷_, _++_}
+use mathlib.Core.Bool.{Bool, true, false, cond, not, _&&_, and-eq-true-iff, and-assoc, false≢true}
+use borrow.Author.Tests.{eqb-true, eqb-false, leb-true, le-leb, eq-eqb, not-true}
+use lib.Dec.{leb, eqb}
+use lib.ListN.{length, take, replicate, length-append, length-take}
+use native.Mathlib.Nat.{min-le-left}
+use Rattle.octets.specs.Read.{wordAt}
+use Rattle.header.specs.declared.Header.{Header}
+use Rattle.header.specs.Reading.{headerOf, announcesNone, within}
+use Rattle.password.specs.Passing.{passes}
+use Rattle.sram.specs.Region.{size, rightSize, lies, aligned, stored}
+use Rattle.sram.proofs.Laws.{lies-part, lies-rest, lies-aligned, stored-length}
+use Rattle.session.specs.declared.Fault.{Fault}
+use Rattle.session.specs.declared.Load.{Load}
+use Rattle.session.specs.declared.Outcome.{Outcome}
+use Rattle.session.specs.declared.Port.{Port}
+use Rattle.session.specs.declared.Refusal.{Refusal}
+use Rattle.session.specs.declared.Session.{Session}
+use Rattle.session.specs.declared.Stage.{Stage}
+use Rattle.session.specs.Answers.{After, notTaken, unchanged}
+use Rattle.session.specs.Items.{Item, wellFormed, portOf, bytesOf, eightUnder, dataUnder}
+use Rattle.session.specs.Sound.{loadSound, soundIn, sound}
+use Rattle.session.specs.Rules.{takes, moved, keeps, takenBy, ruled, after, received, passwordMoved, headerMoved, checked, judged, loaded, loadFrom, advanced}
+
+-- neither 7 nor 8 is due
+pub record Accepted (session : Session) (sram : List ℕ) : Type 0 where
+  pub right : rightSize sram ≡ true
+  pub fine : sound session ≡ true
+
+pub eight-formed : (wanted identifier : ℕ) (frame : List ℕ) → wanted ≤ 2047 → eightUnder wanted identifier frame ≡ true
+    → wellFormed (Item.Frame identifier frame) ≡ true
+eight-formed wanted identifier frame small e =
+    let h = and-eq-true-iff (eqb identifier wanted) (eqb (length frame) 8) .0 e in
+    let i : identifier ≡ wanted = eqb-true identifier wanted (h .0) in
+    let n : length frame ≡ 8 = eqb-true (length frame) 8 (h .1) in
+    rw (le-leb identifier 2047 (omega arith), le-leb (length frame) 8 (omega arith))
+
+-- what a data frame's test says
+pub record Fits (owed identifier : ℕ) (frame : List ℕ) : Type 0 where
+  pub under : identifier ≡ 0x013
+  pub some-bytes : 1 ≤ length frame
+  pub at-most : length frame ≤ 8
+  pub not-above : length frame ≤ owed
+
+pub data-fits : (owed identifier : ℕ) (frame : List ℕ) → dataUnder owed identifier frame ≡ true → Fits owed identifier frame
+data-fits owed identifier frame e =
+    let n = length frame in
+    let h = and-eq-true-iff (eqb identifier 0x013 && leb 1 n && leb n 8) (leb n owed) .0 e in
+    let i = and-eq-true-iff (eqb identifier 0x013 && leb 1 n) (leb n 8) .0 (h .0) in
+    let j = and-eq-true-iff (eqb identifier 0x013) (leb 1 n) .0 (i .0) in
+    record {
+      under = eqb-true identifier 0x013 (j .0);
+      some-bytes = leb-true 1 n (j .1);
+      at-most = leb-true n 8 (i .1);
+      not-above = leb-true n owed (h .1);
+    }
+
+pub data-formed : (owed identifier : ℕ) (frame : List ℕ) → dataUnder owed identifier frame ≡ true
+    → wellFormed (Item.Frame identifier frame) ≡ true
+data-formed owed identifier frame e =
+    let f = data-fits owed identifier frame e in
+    rw (le-leb identifier 2047 (omega arith), le-leb (length frame) 8 (omega arith))
+
+-- an item that is taken is not refused for its form
+pub taken-formed : (stage : Stage) (item : Item) → takes stage item ≡ true → wellFormed item ≡ true
+unfolding takes
+taken-formed stage (Item.Byte byte faulty) e = refl
+taken-formed Stage.Waiting (Item.Frame identifier frame) e = eight-formed 0x011 identifier frame (omega arith) e
+taken-formed Stage.Password (Item.Frame identifier frame) e = absurd (false≢true e)
+taken-formed (Stage.Header Port.Can) (Item.Frame identifier frame) e = eight-formed 0x012 identifier frame (omega arith) e
+taken-formed (Stage.Header Port.Serial) (Item.Frame identifier frame) e = absurd (false≢true e)
+taken-formed (Stage.Data Port.Can load) (Item.Frame identifier frame) e = data-formed (load .owed) identifier frame e
+taken-formed (Stage.Data Port.Serial load) (Item.Frame identifier frame) e = absurd (false≢true e)
+taken-formed (Stage.Stopped refusal) (Item.Frame identifier frame) e = absurd (false≢true e)
+taken-formed (Stage.Jumped jump) (Item.Frame identifier frame) e = absurd (false≢true e)
+
+module _ (session : Session) (sram : List ℕ) (item : Item) (ok : Accepted session sram) where
+  pub after-taken : takes (session .stage) item ≡ true
+      → after session sram item ≡ takenBy session sram (portOf item) (bytesOf item)
+  unfolding after ruled
+  after-taken e = rw (ok .right, ok .fine, taken-formed (session .stage) item e, e)
+
+  pub after-passed : takes (session .stage) item ≡ false
+      → after session sram item ≡ unchanged (notTaken item) session sram
+  unfolding after ruled
+  after-passed e = rw (ok .right, ok .fine, e) (either (wellFormed item))
+    where
+      either
+          : (formed : Bool)
+          → cond formed (unchanged Outcome.Ignored session sram) (unchanged (Outcome.Refused Fault.Form) session sram)
+          ≡ unchanged (cond formed Outcome.Ignored (Outcome.Refused Fault.Form)) session sram
+      either true = refl
+      either false = refl
+
+-- The counts still fit the stage after an item.
+
+received-most : (session : Session) (bytes : List ℕ) → length (received session bytes) ≤ session .count + length bytes
+received-most session bytes =
+    let l = session .held in
+    omega (arith, length-append (take (session .count) l) bytes, length-take (session .count) l, min-le-left (session .count) (length l))
+
+received-least : (session : Session) (bytes : List ℕ) → length bytes ≤ length (received session bytes)
+received-least session bytes = omega (arith, length-append (take (session .count) (session .held)) bytes)
+
+-- with nothing held
+pub received-all : (session : Session) (bytes : List ℕ) → session .count ≡ 0 → received session bytes ≡ bytes
+received-all session bytes none = rw none
+
+entered-sound : (port : Port) → soundIn (Stage.Header port) 0 ≡ true
+entered-sound Port.Can = refl
+entered-sound Port.Serial = refl
+
+checked-sound : (session : Session) (port : Port) (bytes : List ℕ) (b : Bool) → passes bytes (session .selected) ≡ b
+    → sound (checked session port bytes .session) ≡ true
+unfolding checked sound
+checked-sound session port bytes true e = rw e (entered-sound port)
+checked-sound session port bytes false e = rw e
+
+begun-sound : (bytes : List ℕ) → announcesNone (headerOf bytes) ≡ false → within (headerOf bytes) ≡ true
+    → loadSound (loadFrom (headerOf bytes)) ≡ true
+begun-sound bytes some-bytes inside =
+    let header = headerOf bytes in
+    let one : 1 ≤ header .length = omega (arith, eqb-false (header .length) 0 some-bytes) in
+    rw (
+      le-leb 1 (header .length) one,
+      inside,
+      lies-aligned (wordAt bytes 0) (header .length) one inside,
+      le-leb (header .start .0) (header .start .0) (omega arith),
+    )
+
+judged-sound : (session : Session) (port : Port) (bytes : List ℕ) (a b : Bool) → announcesNone (headerOf bytes) ≡ a
+    → within (headerOf bytes) ≡ b → sound (judged session port (headerOf bytes) .session) ≡ true
+unfolding judged sound
+judged-sound session port bytes true b e f = rw e
+judged-sound session port bytes false true e f = rw (e, f) (begun-sound bytes e f)
+judged-sound session port bytes false false e f = rw (e, f)
+
+password-sound : (session : Session) (port : Port) (bytes : List ℕ) (b : Bool) → eqb (length bytes) 8 ≡ b → 1 ≤ length bytes
+    → length bytes ≤ 8 → sound (passwordMoved session port bytes .session) ≡ true
+unfolding passwordMoved sound
+password-sound session port bytes true e h k = rw e (checked-sound session port bytes (passes bytes (session .selected)) refl)
+password-sound session port bytes false e h k =
+    let seven : length bytes ≤ 7 = omega (arith, eqb-false (length bytes) 8 e) in
+    rw (e, le-leb 1 (length bytes) h, le-leb (length bytes) 7 seven)
+
+header-sound : (session : Session) (port : Port) (bytes : List ℕ) (b : Bool) → eqb (length bytes) 8 ≡ b → length bytes ≤ 8
+    → (port ≡ Port.Can → length bytes ≡ 8) → sound (headerMoved session port bytes .session) ≡ true
+unfolding headerMoved sound
+header-sound session port bytes true e k can =
+    rw e (judged-sound session port bytes (announcesNone (headerOf bytes)) (within (headerOf bytes)) refl refl)
+header-sound session Port.Can bytes false e k can = absurd (eqb-false (length bytes) 8 e (can refl))
+header-sound session Port.Serial bytes false e k can =
+    let seven : length bytes ≤ 7 = omega (arith, eqb-false (length bytes) 8 e) in
+    rw (e, le-leb (length bytes) 7 seven)
+
+-- what a sound load says
+pub record LoadFits (load : Load) : Type 0 where
+  pub some-owed : 1 ≤ load .owed
+  pub inside : lies (load .next) (load .owed) ≡ true
+  pub start-aligned : aligned (load .start .0) ≡ true
+  pub not-beyond : load .start .0 ≤ load .next
+
+pub load-fits : (load : Load) → loadSound load ≡ true → LoadFits load
+load-fits load e =
+    let a = leb 1 (load .owed) in
+    let b = lies (load .next) (load .owed) in
+    let c = aligned (load .start .0) in
+    let d = leb (load .start .0) (load .next) in
+    let h = and-eq-true-iff (a && b && c) d .0 e in
+    let i = and-eq-true-iff (a && b) c .0 (h .0) in
+    let j = and-eq-true-iff a b .0 (i .0) in
+    record {
+      some-owed = leb-true 1 (load .owed) (j .0);
+      inside = j .1;
+      start-aligned = i .1;
+      not-beyond = leb-true (load .start .0) (load .next) (h .1);
+    }
+
+loaded-sound : (session : Session) (port : Port) (load : Load) (count : ℕ) (b : Bool) → eqb count (load .owed) ≡ b
+    → loadSound load ≡ true → count ≤ load .owed → sound (loaded session port load count .session) ≡ true
+unfolding loaded sound
+loaded-sound session port load count true e f h = rw e
+loaded-sound session port load count false e f h =
+    let l = load-fits load f in
+    let more : 1 ≤ load .owed - count = omega (arith, eqb-false count (load .owed) e) in
+    rw (
+      e,
+      le-leb 1 (load .owed - count) more,
+      lies-rest (load .next) (load .owed) count (l .inside) h,
+      l .start-aligned,
+      le-leb (load .start .0) (load .next + count) (omega arith),
+    )
+
+-- the bytes of an item that opens: 8 of CAN, 1 of serial
+pub eight-long : (wanted identifier : ℕ) (frame : List ℕ) → eightUnder wanted identifier frame ≡ true → length frame ≡ 8
+eight-long wanted identifier frame e =
+    eqb-true (length frame) 8 (and-eq-true-iff (eqb identifier wanted) (eqb (length frame) 8) .0 e .1)
+
+from-nothing : (session : Session) (port : Port) (bytes : List ℕ) → eqb (session .count) 0 ≡ true → 1 ≤ length bytes
+    → length bytes ≤ 8 → sound (passwordMoved session port (received session bytes) .session) ≡ true
+from-nothing session port bytes s h k =
+    rw (received-all session bytes (eqb-true (session .count) 0 s))
+    (password-sound session port bytes (eqb (length bytes) 8) refl h k)
+
+moved-sound : (stage : Stage) (session : Session) (item : Item) → soundIn stage (session .count) ≡ true
+    → takes stage item ≡ true → sound (moved stage session (portOf item) (bytesOf item) .session) ≡ true
+unfolding moved takes
+moved-sound Stage.Waiting session (Item.Frame identifier frame) s e =
+    let n = eight-long 0x011 identifier frame e in
+    from-nothing session Port.Can frame s (omega arith) (omega arith)
+moved-sound Stage.Waiting session (Item.Byte byte faulty) s e =
+    from-nothing session Port.Serial (byte ∷ []) s (omega arith) (omega arith)
+moved-sound Stage.Password session (Item.Frame identifier frame) s e = absurd (false≢true e)
+moved-sound Stage.Password session (Item.Byte byte faulty) s e =
+    let bytes = received session (byte ∷ []) in
+    let most = leb-true (session .count) 7 (and-eq-true-iff (leb 1 (session .count)) (leb (session .count) 7) .0 s .1) in
+    password-sound session Port.Serial bytes (eqb (length bytes) 8) refl
+    (omega (arith, received-least session (byte ∷ [])))
+    (omega (arith, received-most session (byte ∷ [])))
+moved-sound (Stage.Header Port.Can) session (Item.Frame identifier frame) s e =
+    let n = eight-long 0x012 identifier frame e in
+    rw (received-all session frame (eqb-true (session .count) 0 s))
+    (header-sound session Port.Can frame (eqb (length frame) 8) refl (omega arith) (λ h. n))
+moved-sound (Stage.Header Port.Can) session (Item.Byte byte faulty) s e = absurd (false≢true e)
+moved-sound (Stage.Header Port.Serial) session (Item.Frame identifier frame) s e = absurd (false≢true e)
+moved-sound (Stage.Header Port.Serial) session (Item.Byte byte faulty) s e =
+    let bytes = received session (byte ∷ []) in
+    let most = leb-true (session .count) 7 s in
+    header-sound session Port.Serial bytes (eqb (length bytes) 8) refl
+    (omega (arith, received-most session (byte ∷ []))) (λ h. absurd (not-can h))
+  where
+    not-can : Port.Serial ≡ Port.Can → ⊥
+    not-can h = let z : _≡_ {A = ℕ} 0 1 = cc in omega arith
+moved-sound (Stage.Data Port.Can load) session (Item.Frame identifier frame) s e =
+    loaded-sound session Port.Can load (length frame) (eqb (length frame) (load .owed)) refl
+    (and-eq-true-iff (eqb (session .count) 0) (loadSound load) .0 s .1)
+    (data-fits (load .owed) identifier frame e .not-above)
+moved-sound (Stage.Data Port.Can load) session (Item.Byte byte faulty) s e = absurd (false≢true e)
+moved-sound (Stage.Data Port.Serial load) session (Item.Frame identifier frame) s e = absurd (false≢true e)
+moved-sound (Stage.Data Port.Serial load) session (Item.Byte byte faulty) s e =
+    let l = and-eq-true-iff (eqb (session .count) 0) (loadSound load) .0 s .1 in
+    loaded-sound session Port.Serial load 1 (eqb 1 (load .owed)) refl l (load-fits load l .some-owed)
+moved-sound (Stage.Stopped refusal) session item s e = absurd (false≢true e)
+moved-sound (Stage.Jumped jump) session item s e = absurd (false≢true e)
+
+-- bytes taken in the data stage lie in SRAM from the next address
+pub taken-inside : (port : Port) (load : Load) (item : Item) → loadSound load ≡ true → takes (Stage.Data port load) item ≡ true
+    → length (bytesOf item) ≤ load .owed
+unfolding takes
+taken-inside Port.Can load (Item.Frame identifier frame) s e = data-fits (load .owed) identifier frame e .not-above
+taken-inside Port.Can load (Item.Byte byte faulty) s e = absurd (false≢true e)
+taken-inside Port.Serial load (Item.Frame identifier frame) s e = absurd (false≢true e)
+taken-inside Port.Serial load (Item.Byte byte faulty) s e = load-fits load s .some-owed
+
+keeps-size : (stage : Stage) (count : ℕ) (sram : List ℕ) (item : Item) → soundIn stage count ≡ true → rightSize sram ≡ true
+    → takes stage item ≡ true → rightSize (keeps stage sram (bytesOf item)) ≡ true
+unfolding keeps
+keeps-size Stage.Waiting count sram item s r e = r
+keeps-size Stage.Password count sram item s r e = r
+keeps-size (Stage.Header port) count sram item s r e = r
+keeps-size (Stage.Data port load) count sram item s r e =
+    let l = and-eq-true-iff (eqb count 0) (loadSound load) .0 s .1 in
+    let bytes = bytesOf item in
+    eq-eqb (length (stored sram (load .next) bytes)) size
+    (stored-length sram (load .next) bytes (eqb-true (length sram) size r)
+    (lies-part (load .next) (load .owed) (length bytes) (load-fits load l .inside) (taken-inside port load item l e)))
+keeps-size (Stage.Stopped refusal) count sram item s r e = r
+keeps-size (Stage.Jumped jump) count sram item s r e = r
+
+-- neither 7 nor 8 is due after an item that was taken
+pub kept : (session : Session) (sram : List ℕ) (item : Item) → Accepted session sram → takes (session .stage) item ≡ true
+    → Accepted (moved (session .stage) session (portOf item) (bytesOf item) .session) (keeps (session .stage) sram (bytesOf item))
+unfolding sound
+kept session sram item ok e =
+    record {
+      right = keeps-size (session .stage) (session .count) sram item (ok .fine) (ok .right) e;
+      fine = moved-sound (session .stage) session item (ok .fine) e;
+    }

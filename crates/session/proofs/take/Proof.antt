@@ -1,0 +1,43 @@
+-- `session::take` meets its contract: each call tells of one part of what an item taken does.
+use borrow.Author.Needs.{needs}
+use Rattle.session.specs.Rules.{takenBy}
+use Rattle.session.proofs.take.Statement.{statement}
+use Rattle.session.proofs.take.Tie as tie
+
+move-on-requires : tie.Need-move-on-requires
+move-on-requires c κs = search needs
+
+echo-identifier-requires : tie.Need-echo-identifier-requires
+echo-identifier-requires c κs = search needs
+
+echo-of-requires : tie.Need-echo-of-requires
+echo-of-requires c κs = search needs
+
+keep-requires : tie.Need-keep-requires
+keep-requires c κs = search needs
+
+same-length : tie.Need-same-length
+same-length c = search needs
+
+returns : tie.Need-returns
+unfolding takenBy
+returns c =
+    let keep = c .before .before .before in
+    let echo = keep .before .before in
+    rw (
+      keep .keep .ensures,
+      echo .echo-of .ensures,
+      echo .before .echo-identifier .ensures,
+      echo .before .before .move-on .ensures,
+    )
+
+pub take-spec : {M : Type 1} → statement M
+take-spec =
+    tie.close
+    (tie.spec
+    move-on-requires
+    echo-identifier-requires
+    echo-of-requires
+    keep-requires
+    same-length
+    returns)

@@ -1,0 +1,63 @@
+-- What the head says back (01, "What the head says back").
+use Prim.Native.Nat.{ℕ}
+use mathlib.Core.List.{List}
+use mathlib.Core.Bool.{cond}
+use lib.ListN.{length, replicate}
+use Rattle.octets.specs.Write.{over}
+use Rattle.session.specs.declared.Answer.{Answer}
+use Rattle.session.specs.declared.Echo.{Echo}
+use Rattle.session.specs.declared.Fault.{Fault}
+use Rattle.session.specs.declared.Outcome.{Outcome}
+use Rattle.session.specs.declared.Refusal.{Refusal}
+use Rattle.session.specs.declared.Reply.{Reply}
+use Rattle.session.specs.declared.Session.{Session}
+use Rattle.session.specs.Items.{Item, wellFormed}
+
+-- "8th password byte in, check not passed"; "header complete, length 0"; "header complete, length not 0, not wholly in SRAM"
+abbrev pub refusalNumber : Refusal → ℕ
+refusalNumber Refusal.Password = 2
+refusalNumber Refusal.Length = 3
+refusalNumber Refusal.Range = 4
+
+-- "identifier above 2,047 or count above 8"; "SRAM handed in is not 65,536 bytes"; "session not sound"
+abbrev pub faultNumber : Fault → ℕ
+faultNumber Fault.Form = 6
+faultNumber Fault.Size = 7
+faultNumber Fault.Unsound = 8
+
+-- "item taken and none of 2 to 5 due"; "item ignored"; "last byte stored"
+abbrev pub numberOf : Outcome → ℕ
+numberOf Outcome.Taken = 0
+numberOf Outcome.Ignored = 1
+numberOf (Outcome.Stops refusal) = refusalNumber refusal
+numberOf (Outcome.Jumps jump) = 5
+numberOf (Outcome.Refused fault) = faultNumber fault
+
+-- an echo of bytes, under an identifier for CAN
+abbrev pub echoOf : ℕ → List ℕ → Echo
+echoOf identifier bytes =
+    record { identifier = identifier; length = length bytes; bytes = over bytes (replicate 8 0) }
+
+-- "A missing echo has length 0."
+abbrev pub noEcho : Echo
+noEcho = record { identifier = 0; length = 0; bytes = replicate 8 0 }
+
+-- a call: its answer, and the session and SRAM as it leaves them
+pub record After : Type 0 where
+  pub answer : Answer
+  pub session : Session
+  pub sram : List ℕ
+
+abbrev pub asAfter : Reply → List ℕ → After
+asAfter reply sram = record { answer = reply .answer; session = reply .session; sram = sram }
+
+-- an item that is not taken: 6 if that is due, and otherwise 1
+abbrev pub notTaken : Item → Outcome
+notTaken item = cond (wellFormed item) Outcome.Ignored (Outcome.Refused Fault.Form)
+
+-- "no echo; nothing changed" (number 1), "number only; nothing changed" (numbers 6, 7 and 8)
+abbrev pub left : Outcome → Session → Reply
+left outcome session = record { answer = record { outcome = outcome; echo = noEcho }; session = session }
+
+abbrev pub unchanged : Outcome → Session → List ℕ → After
+unchanged outcome session sram = asAfter (left outcome session) sram

@@ -1,0 +1,63 @@
+-- Two lists of calls for demand 3: one that jumps and one that does not, each with both ports, faulty bytes and a frame refused for
+-- its form.
+use Prim.Native.Nat.{ℕ}
+use mathlib.Core.List.{List, [], _∷_, _++_, map}
+use mathlib.Core.Bool.{true, false}
+use lib.ListN.{replicate}
+use Rattle.boot.specs.Table.{publicPassword}
+use Rattle.session.specs.declared.Answer.{Answer}
+use Rattle.session.specs.declared.Port.{Port}
+use Rattle.session.specs.declared.Stage.{Stage}
+use Rattle.session.specs.Answers.{numberOf}
+use Rattle.session.specs.Fresh.{freshSession}
+use Rattle.session.specs.Items.{Item}
+use Rattle.merging.specs.Running.{Run, ran, jumpsIn}
+use Rattle.merging.specs.Plain.{plainOf, complete}
+use Rattle.trials.specs.Trials.{Case, trial, zeroes}
+
+abbrev runOf : List Item → Run
+runOf items = ran (freshSession publicPassword) zeroes items
+
+abbrev numbersOf : Run → List ℕ
+numbersOf run = map (λ (answer : Answer). numberOf (answer .outcome)) (run .answers)
+
+-- by CAN, start 0x40000003, VLE, 3 bytes
+abbrev jumping : List Item
+jumping =
+    Item.Byte 0xFE true
+    ∷ Item.Frame 0x800 (0x01 ∷ [])
+    ∷ Item.Frame 0x012 (replicate 8 0x40)
+    ∷ Item.Frame 0x011 publicPassword
+    ∷ Item.Byte 0xFE false
+    ∷ Item.Frame 0x012 (0x40 ∷ 0x00 ∷ 0x00 ∷ 0x03 ∷ 0x80 ∷ 0x00 ∷ 0x00 ∷ 0x03 ∷ [])
+    ∷ Item.Frame 0x013 (0x11 ∷ 0x22 ∷ 0x33 ∷ 0x44 ∷ [])
+    ∷ Item.Frame 0x013 (0xAA ∷ 0xBB ∷ [])
+    ∷ Item.Byte 0xED true
+    ∷ Item.Frame 0x013 (replicate 9 0x55)
+    ∷ Item.Frame 0x013 (0xCC ∷ [])
+    ∷ Item.Frame 0x013 (0xDD ∷ [])
+    ∷ []
+
+-- by serial, start 0x40000004, 2 bytes announced, of which the second comes faulty
+abbrev clean : List ℕ → List Item
+clean bytes = map (λ (byte : ℕ). Item.Byte byte false) bytes
+
+abbrev falling : List Item
+falling =
+    (Item.Byte 0xFE true ∷ Item.Frame 0x013 (0x77 ∷ []) ∷ Item.Byte 0xFE false ∷ Item.Frame 0x011 publicPassword ∷ [])
+    ++ clean (0xED ∷ 0xFA ∷ 0xCE ∷ 0xCA ∷ 0xFE ∷ 0xBE ∷ 0xEF ∷ [])
+    ++ clean (0x40 ∷ 0x00 ∷ 0x00 ∷ 0x04 ∷ 0x00 ∷ 0x00 ∷ 0x00 ∷ 0x02 ∷ [])
+    ++ (Item.Byte 0xAA false ∷ Item.Frame 0x011 (replicate 9 0) ∷ Item.Byte 0xBB true ∷ [])
+
+abbrev pub listTable : List Case
+listTable =
+    trial (numbersOf (runOf jumping)) (1 ∷ 6 ∷ 1 ∷ 0 ∷ 1 ∷ 0 ∷ 1 ∷ 0 ∷ 1 ∷ 6 ∷ 5 ∷ 1 ∷ [])
+    ∷ trial (jumpsIn (runOf jumping .answers)) (record { start = record { 0 = 0x40000000 }; vle = true } ∷ [])
+    ∷ trial (complete publicPassword (plainOf jumping)) true
+    ∷ trial (runOf jumping .sram) (0xAA ∷ 0xBB ∷ 0xCC ∷ replicate 65533 0)
+    ∷ trial (numbersOf (runOf falling)) ((1 ∷ 1 ∷ 0 ∷ 1 ∷ []) ++ replicate 16 0 ++ (6 ∷ 1 ∷ []))
+    ∷ trial (jumpsIn (runOf falling .answers)) []
+    ∷ trial (complete publicPassword (plainOf falling)) false
+    ∷ trial (runOf falling .session .stage)
+    (Stage.Data Port.Serial (record { start = record { 0 = 0x40000004 }; vle = false; next = 0x40000005; owed = 1 }))
+    ∷ []
