@@ -34,7 +34,7 @@ const STAGES: [&str; 8] = [
     "stopped",
     "jumped",
 ];
-const JUMPS: [[&str; 2]; 2] = [["CAN", "CAN VLE"], ["serial", "serial VLE"]];
+const JUMPS: [[&str; 2]; 2] = [["CAN VLE 0", "CAN VLE 1"], ["serial VLE 0", "serial VLE 1"]];
 
 /// What a caller keeps from call to call.
 #[derive(Clone, PartialEq)]
@@ -300,13 +300,12 @@ impl<'a> Bench<'a> {
             (number, &answer),
             (due.number, &expected),
             || {
-                let call = match item {
-                    Item::Frame { .. } => "boot_assist_frame",
-                    Item::Byte { .. } => "boot_assist_byte",
-                };
                 let session = session_line(&before[..lengths.session]);
-                let item = shown(item);
-                format!("{call}\n{lengths}{session}{item}, faulty {mark}\n")
+                let call = match item {
+                    Item::Frame { .. } => format!("boot_assist_frame, {}", shown(item)),
+                    Item::Byte { .. } => format!("boot_assist_byte, {}, {mark}", shown(item)),
+                };
+                format!("{call}\n{session}{lengths}")
             },
         )?;
         self.count_call(item, &before[..lengths.session], &due);
@@ -478,7 +477,7 @@ impl<'a> Bench<'a> {
         let ours = hand_in_list(&mut self.ours, parts, lengths, &mut answers);
         self.compare("due", (ours, &answers), (number, &expected), || {
             let session = session_line(&before[..lengths.session]);
-            format!("{lengths}{session}{parts}")
+            format!("{parts}{session}{lengths}")
         })?;
         self.count("list", DIGITS[usize::from(number)]);
         Ok(true)

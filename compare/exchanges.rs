@@ -16,6 +16,8 @@ use reference::session::Item;
 type Turn = (Item, Row);
 
 const SERIAL_DIRECTLY: u8 = 2;
+const CAN: u32 = 0;
+const SERIAL: u32 = 1;
 
 /// The answer to a taken item; the identifier is 0 for serial.
 fn echoed(number: u32, identifier: u32, data: &[u8]) -> Row {
@@ -45,9 +47,6 @@ fn sent(port: u32, identifier: u32, data: &[u8], number: u32) -> Vec<Turn> {
     data.iter().enumerate().map(turn).collect()
 }
 
-const CAN: u32 = 0;
-const SERIAL: u32 = 1;
-
 /// The numbers of a session that holds no password or header bytes.
 fn session(
     selected: [u8; 8],
@@ -76,7 +75,9 @@ fn exchange(
 ) -> Result<(), String> {
     bench.fill();
     let items: Vec<Item> = turns.iter().map(|(item, _)| item.clone()).collect();
-    let rows = bench.run_fresh(SERIAL_DIRECTLY, selected, &items)?;
+    let rows = bench
+        .run_fresh(SERIAL_DIRECTLY, selected, &items)
+        .map_err(|difference| format!("{name}\n{difference}"))?;
     for (index, (row, (_, printed))) in rows.iter().zip(turns).enumerate() {
         if row != printed {
             let lines = numbers(row, printed, answer_name);

@@ -17,109 +17,31 @@ const LEGAL: [u16; 8] = [
     0x0001, 0x0100, 0x8000, 0x00FF, 0xFF00, 0xFFFE, 0xFEFF, 0x7FFF,
 ];
 
+#[rustfmt::skip]
 const STARTS: [u32; 24] = [
-    0,
-    3,
-    4,
-    BASE - SRAM as u32,
-    BASE - 8,
-    BASE - 4,
-    BASE - 1,
-    BASE,
-    BASE + 1,
-    BASE + 3,
-    BASE + 4,
-    BASE + 0x8000,
-    END - 8,
-    END - 5,
-    END - 4,
-    END - 3,
-    END - 1,
-    END,
-    END + 3,
-    0x7FFF_FFFF,
-    0x8000_0000,
-    0xC000_0000,
-    0xFFFF_FFFC,
-    0xFFFF_FFFF,
+    0, 3, 4, BASE - SRAM as u32, BASE - 8, BASE - 4, BASE - 1, BASE, BASE + 1, BASE + 3,
+    BASE + 4, BASE + 0x8000, END - 8, END - 5, END - 4, END - 3, END - 1, END, END + 3,
+    0x7FFF_FFFF, 0x8000_0000, 0xC000_0000, 0xFFFF_FFFC, 0xFFFF_FFFF,
 ];
 
+#[rustfmt::skip]
 const LENGTHS: [u32; 20] = [
-    0,
-    1,
-    2,
-    3,
-    4,
-    5,
-    7,
-    8,
-    9,
-    0xFF,
-    0x100,
-    65_532,
-    65_533,
-    65_535,
-    65_536,
-    65_537,
-    65_540,
-    0x4000_0000,
-    0x4001_0000,
-    0x7FFF_FFFF,
+    0, 1, 2, 3, 4, 5, 7, 8, 9, 0xFF, 0x100, 65_532, 65_533, 65_535, 65_536, 65_537, 65_540,
+    0x4000_0000, 0x4001_0000, 0x7FFF_FFFF,
 ];
 
+#[rustfmt::skip]
 const IDENTIFIERS: [u32; 24] = [
-    0x000,
-    0x001,
-    0x002,
-    0x003,
-    0x010,
-    0x011,
-    0x012,
-    0x013,
-    0x014,
-    0x091,
-    0x111,
-    0x211,
-    0x412,
-    0x413,
-    0x7FE,
-    0x7FF,
-    0x800,
-    0x811,
-    0x812,
-    0x813,
-    0x1_0011,
-    0x8000_0013,
-    0xFFFF_0012,
-    0xFFFF_FFFF,
+    0x000, 0x001, 0x002, 0x003, 0x010, 0x011, 0x012, 0x013, 0x014, 0x091, 0x111, 0x211,
+    0x412, 0x413, 0x7FE, 0x7FF, 0x800, 0x811, 0x812, 0x813, 0x1_0011, 0x8000_0013,
+    0xFFFF_0012, 0xFFFF_FFFF,
 ];
 
 /// Numbers that are put where another belongs.
+#[rustfmt::skip]
 const NUMBERS: [u32; 24] = [
-    0,
-    1,
-    2,
-    3,
-    4,
-    5,
-    6,
-    7,
-    8,
-    9,
-    0xFF,
-    0x100,
-    0x101,
-    0x102,
-    0x103,
-    SRAM as u32,
-    BASE - 1,
-    BASE,
-    BASE + 1,
-    BASE + 4,
-    END - 1,
-    END,
-    0x8000_0000,
-    0xFFFF_FFFF,
+    0, 1, 2, 3, 4, 5, 6, 7, 8, 9, 0xFF, 0x100, 0x101, 0x102, 0x103, SRAM as u32, BASE - 1,
+    BASE, BASE + 1, BASE + 4, END - 1, END, 0x8000_0000, 0xFFFF_FFFF,
 ];
 
 pub fn frame(identifier: u32, data: &[u8]) -> Item {
@@ -496,47 +418,27 @@ impl Maker {
     }
 
     /// One number of a session made another.
-    pub fn bend(&mut self, numbers: &mut [u32]) {
-        let to_end = END.wrapping_sub(numbers[NEXT]);
+    fn bend(&mut self, numbers: &mut [u32]) {
+        let random = &mut self.random;
         let next = numbers[NEXT];
-        let (at, number) = match self.random.below(16) {
-            0 => (self.random.below(SESSION), self.random.number() as u32),
-            1 | 2 => (self.random.below(SESSION), self.random.pick(&NUMBERS)),
-            3 => (self.random.below(8), 0x100 + self.random.byte() as u32),
-            4 => (HELD + self.random.below(8), 0x100 << self.random.below(24)),
-            5 => (
-                STAGE,
-                self.random.pick(&[1, 2, 3, 4, 5, 6, 7, 0x100, 0x103]),
-            ),
-            6 => (PORT, self.random.pick(&[0, 1, 2, 0x100, 0x101])),
-            7 | 8 => (
-                COUNT,
-                self.random.pick(&[0, 1, 7, 8, 9, 0xFF, 0x100, 0x101]),
-            ),
-            9 => (VLE, self.random.pick(&[0, 1, 2, 0x100, 0x101])),
-            10 => (REFUSAL, self.random.below(7) as u32),
-            11 => (
-                OWED,
-                self.random
-                    .pick(&[0, to_end.wrapping_add(1), !next, next.wrapping_neg()]),
-            ),
-            12 => (
-                NEXT,
-                self.random
-                    .pick(&[BASE - 1, END - 1, END, END + 1, next.wrapping_add(1)]),
-            ),
-            13 => (
-                START,
-                (next & !3).wrapping_add(self.random.pick(&[1, 2, 3, 4, 8])),
-            ),
-            14 => (
-                START,
-                self.random.pick(&[BASE + 1, BASE + 2, BASE - 4, END, 0]),
-            ),
-            _ => (
-                self.random.pick(&[PORT, START, VLE, NEXT, OWED, REFUSAL]),
-                1,
-            ),
+        let over = END.wrapping_sub(next).wrapping_add(1);
+        #[rustfmt::skip]
+        let (at, number) = match random.below(16) {
+            0 => (random.below(SESSION), random.number() as u32),
+            1 | 2 => (random.below(SESSION), random.pick(&NUMBERS)),
+            3 => (random.below(8), 0x100 + u32::from(random.byte())),
+            4 => (HELD + random.below(8), 0x100 << random.below(24)),
+            5 => (STAGE, random.pick(&[1, 2, 3, 4, 5, 6, 7, 0x100, 0x103])),
+            6 => (PORT, random.pick(&[0, 1, 2, 0x100, 0x101])),
+            7 | 8 => (COUNT, random.pick(&[0, 1, 7, 8, 9, 0xFF, 0x100, 0x101])),
+            9 => (VLE, random.pick(&[0, 1, 2, 0x100, 0x101])),
+            10 => (REFUSAL, random.below(7) as u32),
+            // With the last two, next and owed add up to 2^32 or just below it.
+            11 => (OWED, random.pick(&[0, over, over, !next, next.wrapping_neg()])),
+            12 => (NEXT, random.pick(&[BASE - 1, END - 1, END, END + 1, next.wrapping_add(1)])),
+            13 => (START, (next & !3).wrapping_add(random.pick(&[1, 2, 3, 4, 8]))),
+            14 => (START, random.pick(&[BASE + 1, BASE + 2, BASE - 4, END, 0])),
+            _ => (random.pick(&[PORT, START, VLE, NEXT, OWED, REFUSAL]), 1),
         };
         numbers[at] = number;
     }

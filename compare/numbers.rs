@@ -27,8 +27,9 @@ pub const JUMP: usize = 11;
 pub const JUMP_VLE: usize = 12;
 
 /// A session of the reference with the header's 8 places for held bytes. While a
-/// password or header fills up, the places behind keep what they had; once it is
-/// complete, all are 0. Nothing else changes them.
+/// password or header fills up, the places behind keep what they had; an item that is
+/// taken and leaves no byte held leaves all of them 0. Of data the header does not say
+/// this: places that are not 0 there are in no session but one that a caller made up.
 #[derive(Clone)]
 pub struct Head {
     pub session: Session,
@@ -128,9 +129,8 @@ impl Head {
     }
 
     pub fn item(&mut self, sram: &mut [u8], item: &Item) -> Answer {
-        let fills = !matches!(self.session.stage, Stage::Data { .. });
         let answer = self.session.item(sram, item);
-        if fills && answer.echo.is_some() {
+        if answer.echo.is_some() {
             match &self.session.held[..] {
                 [] => self.places = [0; 8],
                 held => self.places[..held.len()].copy_from_slice(held),

@@ -14,9 +14,10 @@
  *    5  the last byte is stored: the head jumps
  *    6  the frame's identifier is above 2047 or its count above 8; of a list: its parts do not fit each other
  *    7  SRAM is not 65536 bytes
- *    8  the session is not sound, or no session has these numbers
+ *    8  the session is not sound, or no session has these numbers, or they are not 24
  *    9  BOOTCFG, the flash, the shadow row or the external head is of a size that is not allowed;
- *       here also an output of another length, or a mode or header that is none of the numbers below
+ *       here also an output of another length (but for the answers of a list: 6), a mode or header that is none
+ *       of the numbers below, and for a fresh session a mode that is not serial or a password that is not 8 bytes
  *   11  rows of external boot were asked for, whatever the header and the output's length
  */
 #ifndef BOOT_ASSIST_H
@@ -71,8 +72,9 @@ uint8_t boot_assist_choice(uint8_t bootcfg,
                            uint32_t *fields, size_t fields_len,
                            uint8_t *password, size_t password_len);
 
-/* The header of a serial session, which sets or clears VLE on entries 1 to 3. Internal boot has no session, so
- * its rows are asked with BOOT_ASSIST_HEADER_NONE; another header is taken as it is handed in. */
+/* The header of a serial session, which sets or clears VLE on entries 1 to 3: a session in the data or jumped stage
+ * has accepted one, with the VLE among its numbers. Internal boot has no session, so its rows are asked with
+ * BOOT_ASSIST_HEADER_NONE; another header is taken as it is handed in. */
 enum boot_assist_header {
     BOOT_ASSIST_HEADER_NONE = 0,  /* no header was accepted */
     BOOT_ASSIST_HEADER_VLE_0 = 1, /* accepted, with VLE 0 */
@@ -118,7 +120,9 @@ enum boot_assist_port { BOOT_ASSIST_PORT_CAN = 0, BOOT_ASSIST_PORT_SERIAL = 1 };
 
 /* The numbers of a session. A number that the stage does not have is 0: the port is that of the password (always
  * serial), header and data stages; start and VLE are those of the data and jumped stages; the next address and
- * the bytes owed are those of the data stage; the refusal is that of the stopped stage. */
+ * the bytes owed are those of the data stage; the refusal is that of the stopped stage. The places of HELD behind
+ * COUNT may hold any byte; they keep it while more bytes are gathered, and after an item that leaves none held all
+ * are 0. */
 enum boot_assist_session_number {
     BOOT_ASSIST_SESSION_SELECTED = 0, /* 8 bytes: the password selected by the boot choice */
     BOOT_ASSIST_SESSION_STAGE = 8,    /* a boot_assist_stage */
@@ -140,7 +144,7 @@ enum boot_assist_session_number {
  * password      the 8 bytes that the choice selected
  * session       BOOT_ASSIST_SESSION_LENGTH numbers, written
  *
- * Returns 0 or 9.
+ * Returns 0; or 9 for another mode, a password of another length or a session of another length.
  */
 uint8_t boot_assist_session(uint8_t mode,
                             const uint8_t *password, size_t password_len,
@@ -152,7 +156,7 @@ enum boot_assist_answer {
     BOOT_ASSIST_ANSWER_NUMBER = 0,
     BOOT_ASSIST_ANSWER_ECHO_IDENTIFIER = 1, /* CAN: 1, 2 or 3 */
     BOOT_ASSIST_ANSWER_ECHO_LENGTH = 2,
-    BOOT_ASSIST_ANSWER_ECHO = 3,            /* 8 bytes, of which the first ECHO_LENGTH are echoed */
+    BOOT_ASSIST_ANSWER_ECHO = 3,            /* 8 bytes, of which the first ECHO_LENGTH are echoed; the others are 0 */
     BOOT_ASSIST_ANSWER_JUMP = 11,
     BOOT_ASSIST_ANSWER_VLE = 12,
     BOOT_ASSIST_ANSWER_LENGTH = 13
@@ -194,8 +198,8 @@ enum boot_assist_kind { BOOT_ASSIST_KIND_FRAME = 1, BOOT_ASSIST_KIND_CLEAN = 2, 
  * bytes         the bytes of all items, one item's behind another's
  * answers       BOOT_ASSIST_ANSWER_LENGTH numbers for each item, written
  *
- * Returns 0; or 7, then 8, then 6 where the lengths of the lists, the counts or a kind do not fit. An item that is
- * refused for its form has its 6 in its answer.
+ * Returns 0, also for a list of no items; or 7, then 8, then 6 where the lengths of the lists, the counts, whose sum
+ * is the number of bytes, or a kind do not fit. An item that is refused for its form has its 6 in its answer.
  */
 uint8_t boot_assist_list(uint32_t *session, size_t session_len,
                          uint8_t *sram, size_t sram_len,

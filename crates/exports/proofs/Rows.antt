@@ -5,7 +5,9 @@ use native.Mathlib.Omega.{arith}
 use mathlib.Core.Path.{_≡_, refl, ap, _∙_}
 use mathlib.Core.List.{List, [], _∷_, _++_, append-nil}
 use lib.ListN.{length, getD, take, drop, length-append, length-drop, drop-of-length-le}
-use lib.Seq.{paste, take-at, drop-append-add, drop-drop, length-take-le, take-all, take-suc}
+use lib.Seq.{take-at, drop-append-add, drop-drop, length-take-le, take-all, take-suc}
+use Rattle.octets.specs.Write.{filled}
+use Rattle.octets.proofs.Lending.{lent, back, put-back}
 use Rattle.mmu.specs.declared.Row.{Row}
 use Rattle.exports.specs.Numbers.{rowNumbers, tableNumbers}
 
@@ -17,9 +19,14 @@ rows-append : (xs ys : List Row) → tableNumbers (xs ++ ys) ≡ tableNumbers xs
 rows-append [] ys = refl
 rows-append (x ∷ xs) ys = rw (rows-append xs ys)
 
--- what is copied in right behind p
-behind : (p q r : List ℕ) (n k : ℕ) → length p ≡ n → length r ≡ k → paste (p ++ q) n r k ≡ p ++ r ++ drop k q
-behind p q r n k e f = rw (take-at p q n e, take-all k r (omega arith), ← e, drop-append-add)
+-- the part from a place on, lent, filled with a row's numbers and given back
+pub put-row : (out : List ℕ) (at : ℕ) (row : Row) → at + 8 ≤ length out
+    → back out at (filled (rowNumbers row) (lent out at)) ≡ take at out ++ rowNumbers row ++ drop (at + 8) out
+put-row out at row room = put-back out (rowNumbers row) at room
+
+-- what is written right behind p
+behind : (p q r : List ℕ) (n k : ℕ) → length p ≡ n → take n (p ++ q) ++ r ++ drop (n + k) (p ++ q) ≡ p ++ r ++ drop k q
+behind p q r n k e = rw (take-at p q n e, ← e, drop-append-add)
 
 -- the invariant: the numbers of the first i rows, and behind them what the output had there
 abbrev pub Written : List ℕ → List Row → ℕ → List ℕ → Type 0
@@ -40,11 +47,11 @@ module _ (out₀ : List ℕ) (rows : List Row) (i : ℕ) (five : length rows ≡
       : (d : Row) (out : List ℕ)
       → Written out₀ rows i out
       → i < 5
-      → Written out₀ rows (i + 1) (paste out (8 * i) (rowNumbers (getD rows i d)) 8)
+      → Written out₀ rows (i + 1) (take (8 * i) out ++ rowNumbers (getD rows i d) ++ drop (8 * i + 8) out)
   turn d out e h =
       let n : 8 * i + 8 ≡ 8 * (i + 1) = omega arith in
-      ap (λ (l : List ℕ). paste l (8 * i) (rowNumbers (getD rows i d)) 8) e
-      ∙ behind (tableNumbers (take i rows)) (drop (8 * i) out₀) (rowNumbers (getD rows i d)) (8 * i) 8 (written-length (omega arith)) refl
+      ap (λ (l : List ℕ). take (8 * i) l ++ rowNumbers (getD rows i d) ++ drop (8 * i + 8) l) e
+      ∙ behind (tableNumbers (take i rows)) (drop (8 * i) out₀) (rowNumbers (getD rows i d)) (8 * i) 8 (written-length (omega arith))
       ∙ ap (λ (l : List ℕ). l ++ drop 8 (drop (8 * i) out₀)) (one-more d h)
       ∙ ap (λ (l : List ℕ). tableNumbers (take (i + 1) rows) ++ l) (drop-drop 8 (8 * i) out₀ ∙ ap (λ (k : ℕ). drop k out₀) n)
 

@@ -1,17 +1,14 @@
 -- The numbers that stand for the boot choice and the MMU rows in the C interface (include/boot_assist.h).
 use Prim.Native.Nat.{ℕ}
 use mathlib.Core.List.{List, [], _∷_, _++_}
-use mathlib.Core.Bool.{Bool, cond}
+use mathlib.Core.Bool.{cond}
 use lib.Dec.{eqb}
 use Rattle.boot.specs.declared.Boot.{Boot}
 use Rattle.boot.specs.declared.Entered.{Entered}
 use Rattle.boot.specs.declared.Mode.{Mode}
 use Rattle.mmu.specs.declared.Header.{Header}
 use Rattle.mmu.specs.declared.Row.{Row}
-
--- a flag is 0 or 1
-abbrev pub bit : Bool → ℕ
-bit flag = cond flag 1 0
+use Rattle.numbers.specs.Writing.{bit}
 
 -- how the head boots, as a number from 0 to 4
 abbrev pub modeNumber : Mode → ℕ

@@ -1,9 +1,12 @@
-// The C interface (include/boot_assist.h): the boot choice and the MMU rows on numbers and lent outputs.
+// The C interface (include/boot_assist.h): the boot choice and the MMU rows on numbers and lent outputs, and the names of the session's
+// calls.
 ghost use mathlib.Core.Path.{_≡_};
-ghost use Prim.Native.Nat.{_+_, _≤_};
 ghost use lib.ListN.{length};
-ghost use lib.Seq.{paste};
-ghost use Rattle.exports.specs.Numbers.{bit, modeNumber, modeOf, headerOf, bootNumbers, rowNumbers, tableNumbers};
+ghost use mathlib.Core.Bool.{not};
+ghost use lib.Dec.{eqb};
+ghost use Rattle.session.specs.Items.{Item};
+ghost use Rattle.calls.specs.Crossing.{asReply, itemReply, listReply, asFreshReply, freshReply};
+ghost use Rattle.exports.specs.Numbers.{modeNumber, modeOf, headerOf, bootNumbers, rowNumbers, tableNumbers};
 ghost use Rattle.exports.specs.Calls.{asChoiceReply, choiceLeaves, choiceAnswer, asRowsReply, rowsLeave, rowsAnswer};
 use boot::Answer;
 use boot::Boot;
@@ -13,16 +16,6 @@ use boot::Mode;
 use mmu::Header;
 use mmu::Mapping;
 use mmu::Row;
-
-// A flag as 0 or 1.
-fn bit_of(flag: bool) -> u32
-    ensures { λ r. ⌜ r ≡ bit flag ⌝ }
-{
-    if flag {
-        return 1;
-    }
-    0
-}
 
 // The number of a way to boot, which `mode_of` reads as that way.
 fn mode_number(mode: Mode) -> u32
@@ -72,10 +65,10 @@ fn boot_numbers(boot: Boot) -> [u32; 8]
         boot.place,
         boot.looked as u32,
         boot.jump,
-        bit_of(boot.watchdog),
-        bit_of(boot.bus16),
-        bit_of(boot.flash),
-        bit_of(boot.nexus),
+        numbers::flag(boot.watchdog),
+        numbers::flag(boot.bus16),
+        numbers::flag(boot.flash),
+        numbers::flag(boot.nexus),
     ]
 }
 
@@ -87,32 +80,12 @@ fn row_numbers(row: Row) -> [u32; 8]
         row.logical,
         row.physical,
         row.size,
-        bit_of(row.inhibited),
-        bit_of(row.guarded),
-        bit_of(row.bigendian),
-        bit_of(row.global),
-        bit_of(row.vle),
+        numbers::flag(row.inhibited),
+        numbers::flag(row.guarded),
+        numbers::flag(row.bigendian),
+        numbers::flag(row.global),
+        numbers::flag(row.vle),
     ]
-}
-
-// Writes eight numbers from a place on.
-fn put_numbers(out: &mut [u32], at: usize, numbers: [u32; 8])
-    requires { ⌜ at + 8 ≤ length (now out) ⌝ }
-    ensures { λ _. ⌜ now (out .exit) ≡ paste (now (out .entry)) at numbers 8 ⌝ }
-{
-    for i in 0..8 {
-        out[at + i] = numbers[i];
-    }
-}
-
-// Writes eight bytes from a place on.
-fn put_bytes(out: &mut [u8], at: usize, bytes: [u8; 8])
-    requires { ⌜ at + 8 ≤ length (now out) ⌝ }
-    ensures { λ _. ⌜ now (out .exit) ≡ paste (now (out .entry)) at bytes 8 ⌝ }
-{
-    for i in 0..8 {
-        out[at + i] = bytes[i];
-    }
 }
 
 // Writes the numbers of five rows.
@@ -122,7 +95,9 @@ fn put_rows(out: &mut [u32], rows: [Row; 5])
 {
     for i in 0..5 {
         let row = rows[i];
-        put_numbers(out, 8 * i, row_numbers(row));
+        let written = row_numbers(row);
+        let at = 8 * i;
+        octets::fill_words(&mut out[at..], &written[..]);
     }
 }
 
@@ -136,8 +111,9 @@ fn put_choice(fields: &mut [u32], password: &mut [u8], choice: Choice) -> u8
         return 9;
     };
     let selected = choice.password;
-    put_numbers(fields, 0, boot_numbers(boot));
-    put_bytes(password, 0, selected);
+    let written = boot_numbers(boot);
+    octets::fill_words(fields, &written[..]);
+    octets::fill(password, &selected[..]);
     0
 }
 
@@ -195,4 +171,65 @@ pub extern "C" fn boot_assist_rows(mode: u8, header: u8, rows: &mut [u32]) -> u8
         return put_mapping(rows, header, mmu::rows(mode_of(mode), header_of(header)));
     }
     9
+}
+
+// A fresh session, from the mode and the password of a serial choice.
+#[no_mangle]
+pub extern "C" fn boot_assist_session(mode: u8, password: &[u8], session: &mut [u32]) -> u8
+    ensures { λ r. ⌜ asFreshReply r (now (session .exit)) ≡ freshReply mode (now (password .entry)) (now (session .entry)) ⌝ }
+{
+    calls::fresh(mode, password, session)
+}
+
+// One CAN frame.
+#[no_mangle]
+pub extern "C" fn boot_assist_frame(
+    session: &mut [u32],
+    sram: &mut [u8],
+    identifier: u32,
+    data: &[u8],
+    answer: &mut [u32],
+) -> u8
+    ensures { λ r. ⌜
+        asReply r (now (session .exit)) (now (sram .exit)) (now (answer .exit))
+        ≡ itemReply (now (session .entry)) (now (sram .entry)) (Item.Frame identifier (now («data» .entry))) (now (answer .entry))
+        ⌝ }
+{
+    calls::frame(session, sram, identifier, data, answer)
+}
+
+// One serial byte, which is faulty where the mark is not 0.
+#[no_mangle]
+pub extern "C" fn boot_assist_byte(
+    session: &mut [u32],
+    sram: &mut [u8],
+    value: u8,
+    mark: u8,
+    answer: &mut [u32],
+) -> u8
+    ensures { λ r. ⌜
+        asReply r (now (session .exit)) (now (sram .exit)) (now (answer .exit))
+        ≡ itemReply (now (session .entry)) (now (sram .entry)) (Item.Byte value (not (eqb mark 0))) (now (answer .entry))
+        ⌝ }
+{
+    calls::byte(session, sram, value, mark, answer)
+}
+
+// A list of items.
+#[no_mangle]
+pub extern "C" fn boot_assist_list(
+    session: &mut [u32],
+    sram: &mut [u8],
+    kinds: &[u8],
+    identifiers: &[u32],
+    counts: &[u32],
+    bytes: &[u8],
+    answers: &mut [u32],
+) -> u8
+    ensures { λ r. ⌜
+        asReply r (now (session .exit)) (now (sram .exit)) (now (answers .exit))
+        ≡ listReply (now (session .entry)) (now (sram .entry)) (now (kinds .entry)) (now (identifiers .entry)) (now (counts .entry)) (now (bytes .entry)) (now (answers .entry))
+        ⌝ }
+{
+    calls::list(session, sram, kinds, identifiers, counts, bytes, answers)
 }

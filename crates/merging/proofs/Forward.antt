@@ -82,13 +82,13 @@ quiet session sram (item ∷ items) ok none-taken =
     let one = passed-run session sram item items ok (none-taken item) in
     record { jumps = one .0 ∙ rest .jumps; same = one .1 ∙ rest .same }
 
-jumped-deaf : (jump : Jump) (item : Item) → takes (Stage.Jumped jump) item ≡ false
+jumped-ignores : (jump : Jump) (item : Item) → takes (Stage.Jumped jump) item ≡ false
 unfolding takes
-jumped-deaf jump item = refl
+jumped-ignores jump item = refl
 
-stopped-deaf : (refusal : Refusal) (item : Item) → takes (Stage.Stopped refusal) item ≡ false
+stopped-ignores : (refusal : Refusal) (item : Item) → takes (Stage.Stopped refusal) item ≡ false
 unfolding takes
-stopped-deaf refusal item = refl
+stopped-ignores refusal item = refl
 
 module _ (selected sram plain : List ℕ) where
   ends-passed : (session : Session) (m : List ℕ) (item : Item) (items : List Item) → Accepted session m
@@ -254,7 +254,7 @@ module _
       let done : moved (session .stage) session (portOf item) bytes ≡ next = rw last in
       let one = taken-run session m item items next (l .ok) e done in
       let accepted : Accepted (next .session) m′ = rw done at (kept session m item (l .ok) e) in
-      let q = quiet (next .session) m′ items accepted (jumped-deaf (jumpOf load)) in
+      let q = quiet (next .session) m′ items accepted (jumped-ignores (jumpOf load)) in
       let there = bytes-there t shape (omega (arith, total, length-append (x ++ bytes) rest)) in
       let header = header-there t shape in
       record {
@@ -372,7 +372,7 @@ module _
       let next = enters session stop (Outcome.Stops Refusal.Length) .session in
       let ok′ : Accepted next sram = rw e at ok in
       rw e
-      (ends-quiet selected sram plain (ran next sram items) sram (quiet next sram items ok′ (stopped-deaf Refusal.Length))
+      (ends-quiet selected sram plain (ran next sram items) sram (quiet next sram items ok′ (stopped-ignores Refusal.Length))
       (ap (complete selected) shape
       ∙ all-there selected all (restData port (headerOf all .length) items) eight more passed
       ∙ rw e))
@@ -396,7 +396,7 @@ module _
       let next = enters session stop (Outcome.Stops Refusal.Range) .session in
       let ok′ : Accepted next sram = rw (e, f) at ok in
       rw (e, f)
-      (ends-quiet selected sram plain (ran next sram items) sram (quiet next sram items ok′ (stopped-deaf Refusal.Range))
+      (ends-quiet selected sram plain (ran next sram items) sram (quiet next sram items ok′ (stopped-ignores Refusal.Range))
       (ap (complete selected) shape
       ∙ all-there selected all (restData port (headerOf all .length) items) eight more passed
       ∙ rw (e, f)))
@@ -531,7 +531,7 @@ module _ (selected sram plain : List ℕ) (eight : length selected ≡ 8) (right
       let next = enters session (Stage.Stopped Refusal.Password) (Outcome.Stops Refusal.Password) .session in
       let ok′ : Accepted next sram = rw e at ok in
       rw e
-      (ends-quiet selected sram plain (ran next sram items) sram (quiet next sram items ok′ (stopped-deaf Refusal.Password))
+      (ends-quiet selected sram plain (ran next sram items) sram (quiet next sram items ok′ (stopped-ignores Refusal.Password))
       (ap (complete selected) shape ∙ unpassed selected all (restHeader port items) more (rw same at e)))
 
   -- the item that brings the last password byte

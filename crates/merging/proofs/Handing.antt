@@ -7,8 +7,8 @@ use mathlib.Core.Path.{_≡_, refl, sym, ap, _∙_}
 use mathlib.Core.List.{List, [], _∷_, _++_, append-assoc, append-nil}
 use mathlib.Core.Bool.{Bool, true, _&&_, and-eq-true-iff}
 use borrow.Author.Tests.{eqb-true, leb-true, le-leb}
-use borrow.Rule.Slice.PartMut.{midOf, putMid}
 use Rattle.octets.specs.Write.{filled}
+use Rattle.octets.proofs.Lending.{lent, back, put-back}
 use lib.Dec.{leb, eqb}
 use lib.ListN.{length, take, drop, getD, length-append, length-drop, drop-of-length-le}
 use lib.Seq.{drop-cons, drop-drop, getD-drop, take-at, take-all, length-take-le}
@@ -49,24 +49,6 @@ module _ (kinds counts : List ℕ) (i : ℕ) (h : i < length kinds) where
         add-one,
       )
 
--- the answers from the place of item i on, lent, filled with one answer's numbers and given back
-pub put-back : (answers row : List ℕ) (at count : ℕ) → length row ≡ count → at + count ≤ length answers
-    → putMid at (length answers - at) answers (filled row (midOf at (length answers - at) answers))
-    ≡ take at answers ++ row ++ drop (at + count) answers
-unfolding filled
-put-back answers row at count many room =
-    let rest = drop at answers in
-    let left : length rest ≡ length answers - at = length-drop at answers in
-    rw (
-      take-all (length answers - at) rest (omega arith),
-      drop-of-length-le rest {i = length answers - at} (omega arith),
-      le-leb (length row) (length rest) (omega arith),
-      drop-drop (length row) at answers,
-      many,
-      append-nil,
-      append-assoc,
-    )
-
 jump-length : (outcome : Outcome) → length (jumpNumbers outcome) ≡ 2
 jump-length Outcome.Taken = refl
 jump-length Outcome.Ignored = refl
@@ -76,6 +58,14 @@ jump-length (Outcome.Refused fault) = refl
 
 pub answer-length : (answer : Answer) → length (answerNumbers answer) ≡ 13
 answer-length answer = rw (jump-length (answer .outcome))
+
+-- the answers from a place on, lent, filled with an answer's numbers and given back
+pub answer-back : (answers : List ℕ) (at : ℕ) (answer : Answer) → at + 13 ≤ length answers
+    → back answers at (filled (answerNumbers answer) (lent answers at))
+    ≡ take at answers ++ answerNumbers answer ++ drop (at + 13) answers
+answer-back answers at answer room =
+    let n = answer-length answer in
+    put-back answers (answerNumbers answer) at (omega arith) ∙ rw n
 
 -- After i items: the run of all is what was written and the run of the rest.
 pub record Under

@@ -1,4 +1,4 @@
-pub mod Deaf
+pub mod Ports
 pub mod Splitting
 pub mod Forward
 pub mod Stream

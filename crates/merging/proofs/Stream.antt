@@ -19,7 +19,7 @@ use Rattle.session.proofs.Laws.{Accepted, eight-formed, data-formed}
 use Rattle.merging.specs.Running.{ran, pickedPort, inStream, only, streamOf}
 use Rattle.merging.specs.Plain.{cleanBytes, dataBytes, headerBytes, frameBytes, plainFrom, plainOf}
 use Rattle.merging.specs.Merging.{Merging}
-use Rattle.merging.proofs.Deaf.{Heard, heard, alike, others}
+use Rattle.merging.proofs.Ports.{Along, along, alike, others}
 use Rattle.merging.proofs.Forward.{forward}
 
 clean-stream : (items : List Item) → cleanBytes (only (inStream (some Port.Serial)) items) ≡ cleanBytes items
@@ -85,7 +85,7 @@ unfolding sound
 merging selected sram items eight right =
     let ok : Accepted (freshSession selected) sram = record { right = right; fine = refl } in
     let wanted = inStream (pickedPort items) in
-    let all = heard selected sram items ok in
+    let all = along selected sram items ok in
     let same = alike wanted (freshSession selected) sram items all in
     let plain = plain-stream (pickedPort items) items in
     let end = rw (sym plain) at (forward selected sram eight ok items) in
@@ -95,7 +95,7 @@ merging selected sram items eight right =
       same-answers = same .answers;
       others =
           λ before item later split e. others wanted (freshSession selected) sram before item later
-          (subst (λ (l : List Item). Heard wanted (freshSession selected) sram l) split all) e;
+          (subst (λ (l : List Item). Along wanted (freshSession selected) sram l) split all) e;
       jumps = end .jumps;
       loaded = end .loads;
     }

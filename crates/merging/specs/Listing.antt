@@ -13,7 +13,6 @@ use Rattle.session.specs.Fresh.{freshSession}
 use Rattle.session.specs.Items.{Item}
 use Rattle.session.specs.Sound.{sound}
 use Rattle.numbers.specs.Writing.{answerNumbers}
-use Rattle.merging.specs.declared.ListReply.{ListReply}
 use Rattle.merging.specs.Running.{Run, ran}
 use Rattle.merging.specs.Merging.{Merging}
 
@@ -79,11 +78,15 @@ listAfter session sram kinds identifiers counts bytes answers =
     (asListAfter 8 session sram answers))
     (asListAfter 7 session sram answers)
 
+-- demand 3 of a list that was run from a fresh session: what the call left is the run of the whole list, and the claim holds of it
+pub record ListMerged (selected sram : List ℕ) (items : List Item) (leaves : ListAfter) : Type 0 where
+  pub is-run : leaves ≡ listRan (ran (freshSession selected) sram items)
+  pub merging : Merging selected sram items
+
 -- what `merging::run` promises of its number, session, SRAM and answers
 pub record ListClaim
     (session : Session) (sram kinds identifiers counts bytes answers : List ℕ) (leaves : ListAfter)
     : Type 0 where
   pub equation : leaves ≡ listAfter session sram kinds identifiers counts bytes answers
-  -- demand 3, where the session is fresh and SRAM of the right size
-  pub demand-3 : session ≡ freshSession (session .selected) → rightSize sram ≡ true
-      → Merging (session .selected) sram (itemsOf kinds identifiers counts bytes)
+  pub demand-3 : session ≡ freshSession (session .selected) → leaves .number ≡ 0
+      → ListMerged (session .selected) sram (itemsOf kinds identifiers counts bytes) leaves

@@ -1,4 +1,4 @@
--- "Read as a plain list" (01): the stream's bytes, without the session's rules.
+-- "Read as a plain list" (01): the stream's bytes, by the items alone; no session, stage or call is in it.
 use Prim.Native.Nat.{ℕ, _+_, _-_}
 use mathlib.Core.List.{List, [], _∷_, _++_}
 use mathlib.Core.Bool.{Bool, cond, _&&_}

@@ -19,7 +19,7 @@ pub struct ListReply {
     pub session: Session,
 }
 
-// One item of a list.
+// Hands in one item of a list.
 fn hand_in(session: Session, sram: &mut [u8], kind: u8, identifier: u32, part: &[u8]) -> Reply
     ensures { λ r. ⌜ asAfter r (now (sram .exit)) ≡ after session (now (sram .entry)) (itemOf kind identifier (now (part .entry))) ⌝ }
 {

@@ -1,5 +1,6 @@
 -- The session of a list of numbers. Of numbers that no session has, what is read is of no account: `encodes` tells.
 use Prim.Native.Nat.{ℕ, _+_, _%_}
+use mathlib.Core.Path.{_≡_}
 use mathlib.Core.List.{List, [], _∷_}
 use mathlib.Core.Bool.{Bool, cond}
 use lib.Dec.{eqb}
@@ -73,3 +74,8 @@ sessionRead numbers =
 -- numbers that are those of the session that they read as
 unfoldable pub encodes : List ℕ → Bool
 encodes numbers = same (sessionNumbers (sessionRead numbers)) numbers
+
+-- what `numbers::session_numbers` promises of the numbers r of a session: they are its numbers, and they read as the session again
+pub record Encoding (session : Session) (r : List ℕ) : Type 0 where
+  pub equation : r ≡ sessionNumbers session
+  pub reads-back : sessionRead r ≡ session

@@ -1,12 +1,10 @@
 // Sessions and answers as lists of numbers, as they cross the C interface (include/boot_assist.h).
 ghost use mathlib.Core.Path.{_≡_};
-ghost use Prim.Native.Nat.{_+_, _%_};
-ghost use mathlib.Core.List.{List, [], _∷_};
 ghost use Rattle.octets.specs.Read.{firstEight};
 ghost use Rattle.octets.specs.Same.{same};
 ghost use Rattle.session.specs.Answers.{refusalNumber, faultNumber, numberOf};
-ghost use Rattle.numbers.specs.Writing.{bit, stageNumber, portNumber, portIn, loadNumbers, sessionNumbers, jumpNumbers, answerNumbers};
-ghost use Rattle.numbers.specs.Reading.{numberAt, byteIn, eightIn, portRead, loadRead, refusalRead, jumpRead, stageRead, sessionRead, encodes};
+ghost use Rattle.numbers.specs.Writing.{bit, stageNumber, portNumber, portIn, loadNumbers, jumpNumbers, answerNumbers};
+ghost use Rattle.numbers.specs.Reading.{numberAt, byteIn, eightIn, portRead, loadRead, refusalRead, jumpRead, stageRead, sessionRead, encodes, Encoding};
 use session::Answer;
 use session::Fault;
 use session::Jump;
@@ -115,7 +113,7 @@ fn eight_numbers(bytes: [u8; 8]) -> [u32; 8]
 
 // The numbers of a session.
 pub fn session_numbers(session: Session) -> [u32; 24]
-    ensures { λ r. ⌜ r ≡ sessionNumbers session ⌝ }
+    ensures { λ r. ⌜ Encoding session r ⌝ }
 {
     let stage = session.stage;
     let password = session.selected;

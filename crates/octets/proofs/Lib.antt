@@ -1,3 +1,4 @@
 pub mod Past
 pub mod Filling
 pub mod Comparing
+pub mod Lending

@@ -9,6 +9,6 @@ use lib.Dec.{leb}
 abbrev pub over : List ℕ → List ℕ → List ℕ
 over bytes list = bytes ++ drop (length bytes) list
 
--- bytes for which there is no room are not written
+-- if not all of them have room, none is written
 unfoldable pub filled : List ℕ → List ℕ → List ℕ
 filled bytes list = cond (leb (length bytes) (length list)) (over bytes list) list

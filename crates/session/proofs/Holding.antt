@@ -2,12 +2,12 @@
 use Prim.Native.Nat.{ℕ, _+_, _-_, _≤_}
 use native.Mathlib.Omega.{arith}
 use mathlib.Core.Path.{_≡_, _∙_}
-use mathlib.Core.List.{List, append-nil, append-assoc}
-use lib.ListN.{length, take, drop, length-append, length-drop, drop-of-length-le}
-use lib.Seq.{length-take-le, take-all, drop-drop}
-use borrow.Author.Tests.{le-leb}
+use mathlib.Core.List.{List, append-nil}
+use lib.ListN.{length, take, length-append, drop-of-length-le}
+use lib.Seq.{length-take-le}
 use borrow.Rule.Slice.PartMut.{midOf, putMid}
 use Rattle.octets.specs.Write.{over, filled}
+use Rattle.octets.proofs.Lending.{put-back}
 use Rattle.session.specs.declared.Session.{Session}
 use Rattle.session.specs.Rules.{received}
 
@@ -24,20 +24,9 @@ module _ (session : Session) (bytes : List ℕ) (eight : length (session .held) 
       rw (drop-of-length-le (session .held) {i = length all} (omega (arith, received-length)), append-nil)
 
   -- the places behind those held, lent, filled and given back
-  pub put-back
+  pub held-back
       : putMid (session .count) (8 - session .count) (session .held)
       (filled bytes (midOf (session .count) (8 - session .count) (session .held)))
       ≡ over (received session bytes) (session .held)
-  unfolding filled
-  put-back =
-      let rest = drop (session .count) (session .held) in
-      let many : length rest ≡ length (session .held) - session .count = length-drop (session .count) (session .held) in
-      rw (
-        take-all (8 - session .count) rest (omega arith),
-        drop-of-length-le rest {i = 8 - session .count} (omega arith),
-        le-leb (length bytes) (length rest) (omega arith),
-        drop-drop (length bytes) (session .count) (session .held),
-        received-length,
-        append-nil,
-        append-assoc,
-      )
+  held-back =
+      rw eight at (put-back (session .held) bytes (session .count) (omega arith)) ∙ rw received-length

@@ -1,7 +1,7 @@
 -- What an item does to a session and to SRAM (01, "A serial session" and "What the head says back").
 use Prim.Native.Nat.{ℕ, _+_, _-_}
 use mathlib.Core.List.{List, _++_}
-use mathlib.Core.Bool.{Bool, true, false, cond, not}
+use mathlib.Core.Bool.{Bool, false, cond, not}
 use lib.ListN.{length, take, replicate}
 use lib.Dec.{eqb}
 use Rattle.octets.specs.Write.{over}
@@ -53,7 +53,7 @@ takes (Stage.Jumped jump) item = false
 
 -- What the bytes taken do. It is the same for both ports.
 
--- a stage that holds no password or header bytes
+-- a stage that holds no password or header bytes ("CAN and every other stage hold no password or header bytes")
 abbrev pub enters : Session → Stage → Outcome → Moved
 enters session stage outcome =
     record {
@@ -61,11 +61,11 @@ enters session stage outcome =
       session = record { selected = session .selected; stage = stage; held = replicate 8 0; count = 0 };
     }
 
--- the password or header bytes received so far
+-- the password or header bytes received so far: "clean bytes are password, then header"
 abbrev pub received : Session → List ℕ → List ℕ
 received session bytes = take (session .count) (session .held) ++ bytes
 
--- a stage that waits for the rest of 8 bytes
+-- a stage that waits for the rest of 8 bytes, and holds those received ("serial holds 1 to 7 password or 0 to 7 header bytes")
 abbrev pub holds : Session → Stage → List ℕ → Moved
 holds session stage bytes =
     record {
@@ -123,6 +123,7 @@ unfoldable pub headerMoved : Session → Port → List ℕ → Moved
 headerMoved session port bytes =
     cond (eqb (length bytes) 8) (judged session port (headerOf bytes)) (holds session (Stage.Header port) bytes)
 
+-- by stage, for the port of the item; stopped and jumped stages take nothing, so that their lines are never used
 unfoldable pub moved : Stage → Session → Port → List ℕ → Moved
 moved Stage.Waiting session port bytes = passwordMoved session port (received session bytes)
 moved Stage.Password session port bytes = passwordMoved session Port.Serial (received session bytes)

@@ -476,8 +476,8 @@ pub fn byte(session: Session, sram: &mut [u8], value: u8, faulty: bool) -> Reply
     leave(session, Outcome::Ignored)
 }
 
-// A waiting session.
-fn waiting(selected: [u8; 8]) -> Session
+// The waiting session with a password selected.
+pub fn waiting(selected: [u8; 8]) -> Session
     ensures { λ r. ⌜ r ≡ freshSession selected ⌝ }
 {
     Session {

@@ -16,7 +16,7 @@ base = 0x40000000
 abbrev pub rightSize : List ℕ → Bool
 rightSize sram = eqb (length sram) size
 
--- as many bytes from an address lie wholly in SRAM
+-- `count` bytes from an address lie wholly in SRAM
 unfoldable pub lies : ℕ → ℕ → Bool
 lies address count = leb base address && leb (address + count) (base + size)
 
@@ -29,7 +29,7 @@ unfoldable pub stored : List ℕ → ℕ → List ℕ → List ℕ
 stored sram address bytes =
     take (address - base) sram ++ bytes ++ drop (address - base + length bytes) sram
 
--- bytes that do not lie in SRAM are not stored
+-- if not all of them lie in SRAM, none is stored
 unfoldable pub storedWithin : List ℕ → ℕ → List ℕ → List ℕ
 storedWithin sram address bytes =
     cond (rightSize sram && lies address (length bytes)) (stored sram address bytes) sram

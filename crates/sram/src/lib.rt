@@ -3,7 +3,7 @@ ghost use mathlib.Core.Path.{_≡_};
 ghost use Prim.Native.Nat.{_/_, _*_};
 ghost use Rattle.sram.specs.Region.{rightSize, lies, aligned, storedWithin};
 
-// An address whose two lowest bits were dropped, as the start of a load is.
+// An address that stands for a start, whose two lowest bits are dropped; `is_aligned` tests one that was handed in.
 pub struct Aligned(pub u32);
 
 const SIZE: usize = 65536;
@@ -17,7 +17,7 @@ pub fn is_whole(sram: &[u8]) -> bool
     sram.len() == SIZE
 }
 
-// Whether as many bytes from an address lie wholly in SRAM.
+// Whether `count` bytes from an address lie wholly in SRAM.
 pub fn is_within(address: u32, count: u32) -> bool
     ensures { λ r. ⌜ r ≡ lies address count ⌝ }
 {
@@ -38,7 +38,8 @@ pub fn align(address: u32) -> Aligned
     Aligned(address / 4 * 4)
 }
 
-// Stores bytes from an address on: the part of SRAM from there is lent on and receives them. Bytes that do not lie in SRAM are not stored.
+// Stores bytes from an address on: the part of SRAM from there is lent on and receives them. If not all of them lie in SRAM, none
+// is stored.
 pub fn store(sram: &mut [u8], address: u32, bytes: &[u8])
     ensures { λ _. ⌜ now (sram .exit) ≡ storedWithin (now (sram .entry)) address (now (bytes .entry)) ⌝ }
 {

@@ -1,2 +1,3 @@
 pub mod Trials
 pub mod Lists
+pub mod Rows

@@ -42,8 +42,8 @@ jumping =
 abbrev clean : List ℕ → List Item
 clean bytes = map (λ (byte : ℕ). Item.Byte byte false) bytes
 
-abbrev falling : List Item
-falling =
+abbrev lacking : List Item
+lacking =
     (Item.Byte 0xFE true ∷ Item.Frame 0x013 (0x77 ∷ []) ∷ Item.Byte 0xFE false ∷ Item.Frame 0x011 publicPassword ∷ [])
     ++ clean (0xED ∷ 0xFA ∷ 0xCE ∷ 0xCA ∷ 0xFE ∷ 0xBE ∷ 0xEF ∷ [])
     ++ clean (0x40 ∷ 0x00 ∷ 0x00 ∷ 0x04 ∷ 0x00 ∷ 0x00 ∷ 0x00 ∷ 0x02 ∷ [])
@@ -55,9 +55,9 @@ listTable =
     ∷ trial (jumpsIn (runOf jumping .answers)) (record { start = record { 0 = 0x40000000 }; vle = true } ∷ [])
     ∷ trial (complete publicPassword (plainOf jumping)) true
     ∷ trial (runOf jumping .sram) (0xAA ∷ 0xBB ∷ 0xCC ∷ replicate 65533 0)
-    ∷ trial (numbersOf (runOf falling)) ((1 ∷ 1 ∷ 0 ∷ 1 ∷ []) ++ replicate 16 0 ++ (6 ∷ 1 ∷ []))
-    ∷ trial (jumpsIn (runOf falling .answers)) []
-    ∷ trial (complete publicPassword (plainOf falling)) false
-    ∷ trial (runOf falling .session .stage)
+    ∷ trial (numbersOf (runOf lacking)) ((1 ∷ 1 ∷ 0 ∷ 1 ∷ []) ++ replicate 16 0 ++ (6 ∷ 1 ∷ []))
+    ∷ trial (jumpsIn (runOf lacking .answers)) []
+    ∷ trial (complete publicPassword (plainOf lacking)) false
+    ∷ trial (runOf lacking .session .stage)
     (Stage.Data Port.Serial (record { start = record { 0 = 0x40000004 }; vle = false; next = 0x40000005; owed = 1 }))
     ∷ []

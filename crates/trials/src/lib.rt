@@ -2,6 +2,7 @@
 // in every case of the table in specs/.
 ghost use Rattle.trials.specs.Trials.{table, Agree};
 ghost use Rattle.trials.specs.Lists.{listTable};
+ghost use Rattle.trials.specs.Rows.{RowsHold};
 
 pub fn cases_agree()
     ensures { λ _. ⌜ Agree table ⌝ }
@@ -10,4 +11,9 @@ pub fn cases_agree()
 // The same for two lists of calls, one that jumps and one that does not.
 pub fn lists_agree()
     ensures { λ _. ⌜ Agree listTable ⌝ }
+{}
+
+// The same for the table of answer numbers: each number is given exactly in its row's case, and only 0 and 5 may change SRAM.
+pub fn rows_hold()
+    ensures { λ _. ⌜ RowsHold ⌝ }
 {}

@@ -9,26 +9,26 @@ mode-number-requires c κs = search needs
 cast-t4 : tie.Need-cast-t4
 cast-t4 c = search needs
 
-bit-of-requires : tie.Need-bit-of-requires
-bit-of-requires c κs = search needs
+flag-requires : tie.Need-flag-requires
+flag-requires c κs = search needs
 
-bit-of-requires-2 : tie.Need-bit-of-requires-2
-bit-of-requires-2 c κs = search needs
+flag-requires-2 : tie.Need-flag-requires-2
+flag-requires-2 c κs = search needs
 
-bit-of-requires-3 : tie.Need-bit-of-requires-3
-bit-of-requires-3 c κs = search needs
+flag-requires-3 : tie.Need-flag-requires-3
+flag-requires-3 c κs = search needs
 
-bit-of-requires-4 : tie.Need-bit-of-requires-4
-bit-of-requires-4 c κs = search needs
+flag-requires-4 : tie.Need-flag-requires-4
+flag-requires-4 c κs = search needs
 
 returns : tie.Need-returns
 returns c =
     rw (
       c .before .before .before .before .before .mode-number .ensures .0,
-      c .before .before .before .bit-of .ensures,
-      c .before .before .bit-of2 .ensures,
-      c .before .bit-of3 .ensures,
-      c .bit-of4 .ensures,
+      c .before .before .before .flag .ensures,
+      c .before .before .flag2 .ensures,
+      c .before .flag3 .ensures,
+      c .flag4 .ensures,
     )
 
 pub boot-numbers-spec : {M : Type 1} → statement M
@@ -37,8 +37,8 @@ boot-numbers-spec =
     (tie.spec
     mode-number-requires
     cast-t4
-    bit-of-requires
-    bit-of-requires-2
-    bit-of-requires-3
-    bit-of-requires-4
+    flag-requires
+    flag-requires-2
+    flag-requires-3
+    flag-requires-4
     returns)

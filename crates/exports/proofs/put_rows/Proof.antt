@@ -1,11 +1,11 @@
 -- `exports::put_rows` meets its contract: after i turns the numbers of the first i rows are in place.
-use Prim.Native.Nat.{_≤_, _-_}
+use Prim.Native.Nat.{_+_, _*_, _≤_, _-_}
 use native.Mathlib.Omega.{arith}
 use mathlib.Core.Path.{_≡_, refl}
 use lib.ListN.{length}
 use denote.Ref.{now}
 use borrow.Author.Needs.{needs}
-use Rattle.exports.proofs.Rows.{Written, turn, kept, done}
+use Rattle.exports.proofs.Rows.{Written, put-row, turn, kept, done}
 use Rattle.exports.proofs.put_rows.Statement.{statement}
 use Rattle.exports.proofs.put_rows.Tie as tie
 
@@ -24,9 +24,6 @@ mul-row c = omega arith
 array-copy-out-row : tie.Need-array-copy-out-row Inv-loop μ-loop
 array-copy-out-row c = omega arith
 
-mul-put-numbers : tie.Need-mul-put-numbers Inv-loop μ-loop
-mul-put-numbers c = omega arith
-
 row-numbers-requires : tie.Need-row-numbers-requires Inv-loop μ-loop
 row-numbers-requires c κs = search needs
 
@@ -36,10 +33,26 @@ same c =
     let l = c .loop in
     kept (now (start .args .out)) (start .args .t2) (l .i) (l .inv .2) (l .out) (l .inv .1) (l .inv .0) (start .pre)
 
-put-numbers-requires : tie.Need-put-numbers-requires Inv-loop μ-loop
-put-numbers-requires c κs =
-    let head = c .before .before .before .before in
-    omega (arith, same head, head .before .before .pre)
+fill-words-requires : tie.Need-fill-words-requires Inv-loop μ-loop
+fill-words-requires c κs = search needs
+
+mul-at : tie.Need-mul-at Inv-loop μ-loop
+mul-at c = omega arith
+
+mul-fill-words : tie.Need-mul-fill-words Inv-loop μ-loop
+mul-fill-words c = omega (arith, same (c .before .before .before), c .before .before .before .before .before .pre)
+
+sub-fill-words : tie.Need-sub-fill-words Inv-loop μ-loop
+sub-fill-words c = omega (arith, same (c .before .before .before), c .before .before .before .before .before .pre)
+
+part-fill-words-start : tie.Need-part-fill-words-start Inv-loop μ-loop
+part-fill-words-start c = omega (arith, same (c .before .before .before), c .before .before .before .before .before .pre)
+
+part-fill-words-end : tie.Need-part-fill-words-end Inv-loop μ-loop
+part-fill-words-end c = omega arith
+
+slice-aggregate-fill-words : tie.Need-slice-aggregate-fill-words Inv-loop μ-loop
+slice-aggregate-fill-words c = search needs
 
 add-i : tie.Need-add-i Inv-loop μ-loop
 add-i c = omega arith
@@ -49,11 +62,12 @@ loop-less c = omega arith
 
 loop-again : tie.Need-loop-again Inv-loop μ-loop
 loop-again c =
-    let body = c .before .before .before .before .before .before in
+    let body = c .before .before .before .before .before .before .before in
     let l = body .before .loop in
-    let a = body .before .before .before .args in (
+    let a = body .before .before .before .args in
+    let room : 8 * l .i + 8 ≤ length (l .out) = omega (arith, same (body .before), body .before .before .before .pre) in (
       omega arith,
-      rw (c .before .before .put-numbers .ensures, c .before .before .before .row-numbers .ensures)
+      rw (c .before .before .fill-words .ensures, c .before .before .before .before .before .row-numbers .ensures, put-row (l .out) (8 * l .i))
           (turn (now (a .out)) (a .t2) (l .i) (l .inv .2) _ (l .out) (l .inv .1) (body .loop-test .taken)),
       l .inv .2,
     )
@@ -76,9 +90,14 @@ put-rows-spec =
     loop-holds
     mul-row
     array-copy-out-row
-    mul-put-numbers
     row-numbers-requires
-    put-numbers-requires
+    mul-at
+    mul-fill-words
+    sub-fill-words
+    part-fill-words-start
+    part-fill-words-end
+    slice-aggregate-fill-words
+    fill-words-requires
     add-i
     loop-less
     loop-again

@@ -1,9 +1,7 @@
 -- `merging::put_answer` meets its contract: the part from the item's place on is filled and given back.
 use Prim.Native.Nat.{_*_}
-use mathlib.Core.Path.{refl}
 use denote.Ref.{now}
-use Rattle.numbers.specs.Writing.{answerNumbers}
-use Rattle.merging.proofs.Handing.{put-back, answer-length}
+use Rattle.merging.proofs.Handing.{answer-back}
 use borrow.Author.Needs.{needs}
 use Rattle.merging.proofs.put_answer.Statement.{statement}
 use Rattle.merging.proofs.put_answer.Tie as tie
@@ -40,7 +38,7 @@ returns c =
     let start = c .before .before .before .before .before .before .before in
     let a = start .args in
     rw (c .before .before .fill-words .ensures, c .before .before .before .before .before .answer-numbers .ensures)
-    (put-back (now (a .answers)) (answerNumbers (a .answer)) (13 * a .i) 13 (answer-length (a .answer)) (start .pre))
+    (answer-back (now (a .answers)) (13 * a .i) (a .answer) (start .pre))
 
 pub put-answer-spec : {M : Type 1} → statement M
 put-answer-spec =

@@ -15,7 +15,7 @@ is-same-requires c κs = search needs
 
 returns : tie.Need-returns
 unfolding encodes
-returns c = rw (c .is-same .ensures, c .before .session-numbers .ensures, c .before .before .read-session .ensures)
+returns c = rw (c .is-same .ensures, c .before .session-numbers .ensures .equation, c .before .before .read-session .ensures)
 
 pub is-session-spec : {M : Type 1} → statement M
 is-session-spec =

@@ -1,5 +1,6 @@
--- `numbers::session_numbers` meets its contract: each number is what its function ensures.
+-- `numbers::session_numbers` meets its contract: each number is what its function ensures, and the session's arrays hold eight bytes each.
 use borrow.Author.Needs.{needs}
+use Rattle.numbers.proofs.Back.{encoding}
 use Rattle.numbers.proofs.Whole.{session-whole}
 use Rattle.numbers.proofs.session_numbers.Statement.{statement}
 use Rattle.numbers.proofs.session_numbers.Tie as tie
@@ -89,13 +90,20 @@ returns : tie.Need-returns
 returns c =
     let loaded = c .before .before .before in
     let start = loaded .before .before .before .before .before in
-    session-whole (start .args .session)
+    let s = start .args .session in
+    encoding s
+    (session-whole s
     (loaded .before .before .eight-numbers .ensures)
     (c .before .before .stage-number .ensures)
     (c .before .port-in .ensures)
     (c .wide .ensures)
     (loaded .before .eight-numbers2 .ensures)
-    (loaded .load-numbers .ensures)
+    (loaded .load-numbers .ensures))
+    (search needs)
+    (λ i. search needs)
+    (search needs)
+    (λ i. search needs)
+    (search needs)
 
 pub session-numbers-spec : {M : Type 1} → statement M
 session-numbers-spec =

@@ -4,7 +4,7 @@ use mathlib.Core.Path.{_≡_}
 use lib.ListN.{length}
 use denote.Ref.{now}
 use borrow.Author.Needs.{needs}
-use Rattle.session.proofs.Holding.{put-back}
+use Rattle.session.proofs.Holding.{held-back}
 use Rattle.session.proofs.gather.Statement.{statement}
 use Rattle.session.proofs.gather.Tie as tie
 
@@ -18,7 +18,7 @@ returns : tie.Need-returns
 returns c =
     let start = c .before .before .before .before .before .before in
     let a = start .args in
-    rw (c .before .fill .ensures, put-back (a .session) (now (a .bytes)) (eight start) (start .pre))
+    rw (c .before .fill .ensures, held-back (a .session) (now (a .bytes)) (eight start) (start .pre))
 
 cast-count : tie.Need-cast-count
 cast-count c = search needs

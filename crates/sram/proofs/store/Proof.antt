@@ -7,7 +7,7 @@ use denote.Ref.{now}
 use borrow.Author.Needs.{needs}
 use borrow.Author.Tests.{ne-eqb, lt-leb}
 use Rattle.sram.specs.Region.{size, base, lies, storedWithin}
-use Rattle.sram.proofs.Lending.{put-back}
+use Rattle.sram.proofs.Lending.{sram-back}
 use Rattle.sram.proofs.store.Statement.{statement}
 use Rattle.sram.proofs.store.Tie as tie
 
@@ -32,6 +32,12 @@ fill-requires c κs = search needs
 same-length : tie.Need-same-length
 same-length c = search needs
 
+returns-2 : tie.Need-returns-2
+unfolding storedWithin lies base size
+returns-2 c =
+    let a = c .before .before .before .before .before .args in
+    rw (lt-leb (a .address + length (now (a .bytes))) (base + size) (omega arith), and-false, and-false)
+
 returns : tie.Need-returns
 unfolding base size
 returns c =
@@ -39,14 +45,8 @@ returns c =
     let a = test .before .before .before .before .before .args in
     rw (
       c .before .before .fill .ensures,
-      put-back (now (a .sram)) (a .address) (now (a .bytes)) (test .before .before .if1 .taken) (test .before .if2 .taken) (test .if3 .taken),
+      sram-back (now (a .sram)) (a .address) (now (a .bytes)) (test .before .before .if1 .taken) (test .before .if2 .taken) (test .if3 .taken),
     )
-
-returns-2 : tie.Need-returns-2
-unfolding storedWithin lies base size
-returns-2 c =
-    let a = c .before .before .before .before .before .args in
-    rw (lt-leb (a .address + length (now (a .bytes))) (base + size) (omega arith), and-false, and-false)
 
 returns-3 : tie.Need-returns-3
 unfolding storedWithin lies base

@@ -12,8 +12,8 @@ use Rattle.trials.proofs.lists_agree.Tie as tie
 
 returns : tie.Need-returns
 unfolding
-  same passes size base lies aligned stored sound after ruled takes takenBy moved passwordMoved checked headerMoved judged loaded keeps
-  ran pickedPort only jumpsIn cleanBytes dataBytes headerBytes frameBytes complete
+    same passes size base lies aligned stored sound after ruled takes takenBy moved passwordMoved checked headerMoved judged loaded keeps
+    ran pickedPort only jumpsIn cleanBytes dataBytes headerBytes frameBytes complete
 returns c = (refl, (refl, (refl, (refl, (refl, (refl, (refl, (refl, tt))))))))
 
 pub lists-agree-spec : {M : Type 1} → statement M

@@ -1,0 +1,62 @@
+-- `calls::put_reply` meets its contract: the session, then the 13 numbers of the answer, and the answer's number.
+use native.Mathlib.Omega.{arith}
+use mathlib.Core.Path.{sym, _∙_}
+use denote.Ref.{now}
+use borrow.Author.Needs.{needs}
+use Rattle.numbers.specs.Writing.{answerNumbers}
+use Rattle.merging.proofs.Handing.{answer-length}
+use Rattle.calls.proofs.Laws.{filled-whole, number-small}
+use Rattle.calls.proofs.put_reply.Statement.{statement}
+use Rattle.calls.proofs.put_reply.Tie as tie
+
+put-session-requires : tie.Need-put-session-requires
+put-session-requires c κs = search needs
+
+answer-numbers-requires : tie.Need-answer-numbers-requires
+answer-numbers-requires c κs = search needs
+
+slice-aggregate-fill-words : tie.Need-slice-aggregate-fill-words
+slice-aggregate-fill-words c = search needs
+
+fill-words-requires : tie.Need-fill-words-requires
+fill-words-requires c κs = search needs
+
+outcome-number-requires : tie.Need-outcome-number-requires
+outcome-number-requires c κs = search needs
+
+same-length : tie.Need-same-length
+same-length c = search needs
+
+same-length-2 : tie.Need-same-length-2
+same-length-2 c = search needs
+
+returns : tie.Need-returns
+returns c =
+    let start = c .before .before .before .before .before .before .before .before .before .before .before .before .before .before .before in
+    let said = start .args .reply .answer in
+    rw (
+      c .outcome-number .ensures,
+      c .before .before .before .before .before .before .before .before .before .put-session .ensures,
+      c .before .before .before .fill-words .ensures,
+      c .before .before .before .before .before .before .answer-numbers .ensures,
+      filled-whole (answerNumbers said) (now (start .args .answer)) (start .pre .1 ∙ sym (answer-length said)),
+    )
+
+cast-result : tie.Need-cast-result
+cast-result c =
+    let start = c .before .before .before .before .before .before .before .before .before .before .before .before .before .before .before in
+    omega (arith, c .outcome-number .ensures, number-small (start .args .reply .answer .outcome))
+
+pub put-reply-spec : {M : Type 1} → statement M
+put-reply-spec =
+    tie.close
+    (tie.spec
+    put-session-requires
+    answer-numbers-requires
+    slice-aggregate-fill-words
+    fill-words-requires
+    outcome-number-requires
+    cast-result
+    same-length
+    same-length-2
+    returns)
