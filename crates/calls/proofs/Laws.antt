@@ -1,12 +1,10 @@
--- Numbers written over a list whole, how many there are, what follows where neither 7 nor 8 is due, and what an item leaves.
+-- How many numbers there are, what follows where neither 7 nor 8 is due, and what an item leaves.
 use Prim.Native.Nat.{ℕ, _≤_}
 use native.Mathlib.Omega.{arith}
 use mathlib.Core.Path.{_≡_, refl, sym, ap, _∙_}
-use mathlib.Core.List.{List, [], append-nil}
+use mathlib.Core.List.{List, []}
 use mathlib.Core.Bool.{Bool, true, false, cond, _&&_}
-use borrow.Author.Tests.{le-leb}
-use lib.ListN.{length, drop-of-length-le}
-use Rattle.octets.specs.Write.{filled}
+use lib.ListN.{length}
 use Rattle.octets.proofs.Comparing.{same-equal}
 use Rattle.sram.specs.Region.{rightSize}
 use Rattle.session.specs.declared.Fault.{Fault}
@@ -20,16 +18,6 @@ use Rattle.session.specs.Sound.{sound}
 use Rattle.numbers.specs.Writing.{loadNumbers, sessionNumbers}
 use Rattle.numbers.specs.Reading.{sessionRead, encodes}
 use Rattle.calls.specs.Crossing.{asReply, leaves, sessionDue}
-
--- a list of the right length, filled, has what it was filled with
-pub filled-whole : (numbers list : List ℕ) → length list ≡ length numbers → filled numbers list ≡ numbers
-unfolding filled
-filled-whole numbers list e =
-    rw (
-      le-leb (length numbers) (length list) (omega arith),
-      drop-of-length-le list {i = length numbers} (omega arith),
-      append-nil,
-    )
 
 load-length : (stage : Stage) → length (loadNumbers stage) ≡ 5
 load-length Stage.Waiting = refl

@@ -5,7 +5,8 @@ use denote.Ref.{now}
 use borrow.Author.Needs.{needs}
 use Rattle.numbers.specs.Writing.{answerNumbers}
 use Rattle.merging.proofs.Handing.{answer-length}
-use Rattle.calls.proofs.Laws.{filled-whole, number-small}
+use Rattle.octets.proofs.Lending.{fill-whole}
+use Rattle.calls.proofs.Laws.{number-small}
 use Rattle.calls.proofs.put_reply.Statement.{statement}
 use Rattle.calls.proofs.put_reply.Tie as tie
 
@@ -39,7 +40,7 @@ returns c =
       c .before .before .before .before .before .before .before .before .before .put-session .ensures,
       c .before .before .before .fill-words .ensures,
       c .before .before .before .before .before .before .answer-numbers .ensures,
-      filled-whole (answerNumbers said) (now (start .args .answer)) (start .pre .1 ∙ sym (answer-length said)),
+      fill-whole (answerNumbers said) (now (start .args .answer)) (start .pre .1 ∙ sym (answer-length said)),
     )
 
 cast-result : tie.Need-cast-result

@@ -3,7 +3,8 @@ use mathlib.Core.Path.{sym, _∙_}
 use denote.Ref.{now}
 use borrow.Author.Needs.{needs}
 use Rattle.numbers.specs.Writing.{sessionNumbers}
-use Rattle.calls.proofs.Laws.{filled-whole, session-length}
+use Rattle.octets.proofs.Lending.{fill-whole}
+use Rattle.calls.proofs.Laws.{session-length}
 use Rattle.calls.proofs.put_session.Statement.{statement}
 use Rattle.calls.proofs.put_session.Tie as tie
 
@@ -24,7 +25,7 @@ returns c =
     let start = c .before .before .before .before .before .before .before in
     let a = start .args in
     rw (c .before .before .fill-words .ensures, c .before .before .before .before .before .session-numbers .ensures .equation)
-    (filled-whole (sessionNumbers (a .session)) (now (a .out)) (start .pre ∙ sym (session-length (a .session))))
+    (fill-whole (sessionNumbers (a .session)) (now (a .out)) (start .pre ∙ sym (session-length (a .session))))
 
 pub put-session-spec : {M : Type 1} → statement M
 put-session-spec =
