@@ -16,8 +16,9 @@
  *    7  SRAM is not 65536 bytes
  *    8  the session is not sound, or no session has these numbers, or they are not 24
  *    9  BOOTCFG, the flash, the shadow row or the external head is of a size that is not allowed;
- *       here also an output of another length (but for the answers of a list: 6), a mode or header that is none
- *       of the numbers below, and for a fresh session a mode that is not serial or a password that is not 8 bytes
+ *       here also an output of another length (but for the session of an item or a list: 8, and the answers of a
+ *       list: 6), a mode or header that is none of the numbers below, and for a fresh session a mode that is not
+ *       serial or a password that is not 8 bytes
  *   11  rows of external boot were asked for, whatever the header and the output's length
  */
 #ifndef BOOT_ASSIST_H

@@ -7,7 +7,6 @@ use mathlib.Core.Bool.{true, false}
 use lib.ListN.{length, getD, drop, drop-of-length-le}
 use lib.Seq.{drop-cons}
 use Rattle.boot.specs.Places.{good, walk}
-use Rattle.boot.specs.declared.Look.{Look}
 
 module _ (memory places : List ℕ) (i : ℕ) where
   pub walk-found

@@ -18,7 +18,7 @@ modeNumber (Mode.Serial Entered.Directly) = 2
 modeNumber (Mode.Serial Entered.FromInternal) = 3
 modeNumber (Mode.Serial Entered.FromExternal) = 4
 
--- and back: of the numbers from 0 to 4, the one whose number it is (`exports::mode_number` promises that)
+-- and back: for a number from 0 to 4 the mode that has it (`exports::mode_number` promises that)
 abbrev pub modeOf : ℕ → Mode
 modeOf number =
     cond (eqb number 0) Mode.Internal

@@ -3,7 +3,7 @@ use Prim.Native.Nat.{ℕ, _+_, _-_, _≤_, _<_}
 use native.Mathlib.Omega.{arith}
 use mathlib.Core.Path.{_≡_, refl, sym, ap, _∙_}
 use mathlib.Core.List.{List, [], _∷_, _++_, append-assoc, append-nil}
-use mathlib.Core.Bool.{Bool, true, false, cond, not, _&&_, and-eq-true-iff, true≢false, false≢true}
+use mathlib.Core.Bool.{Bool, true, false, cond, not, and-eq-true-iff, true≢false, false≢true}
 use mathlib.Core.Option.{Option, none, some}
 use borrow.Author.Tests.{eqb-true, eqb-false, not-true, leb-true, le-leb, lt-leb}
 use lib.Dec.{leb, eqb}
@@ -26,15 +26,15 @@ use Rattle.session.specs.declared.Port.{Port}
 use Rattle.session.specs.declared.Refusal.{Refusal}
 use Rattle.session.specs.declared.Session.{Session}
 use Rattle.session.specs.declared.Stage.{Stage}
-use Rattle.session.specs.Answers.{notTaken, unchanged}
+use Rattle.session.specs.Answers.{notTaken}
 use Rattle.session.specs.Fresh.{freshSession}
-use Rattle.session.specs.Items.{Item, wellFormed, portOf, bytesOf, eightUnder, dataUnder, opens}
+use Rattle.session.specs.Items.{Item, wellFormed, portOf, bytesOf, eightUnder, opens}
 use Rattle.session.specs.Sound.{soundIn, sound, loadSound}
-use Rattle.session.specs.Rules.{cleanByte, takes, moved, keeps, takenBy, after, received, enters, holds, passwordMoved, headerMoved, checked, judged, loaded, loadFrom, jumpOf, advanced}
-use Rattle.session.proofs.Laws.{Accepted, after-taken, after-passed, kept, eight-long, received-all, load-fits, taken-inside}
+use Rattle.session.specs.Rules.{cleanByte, takes, moved, keeps, takenBy, enters, holds, passwordMoved, headerMoved, checked, judged, loaded, loadFrom, jumpOf, advanced}
+use Rattle.session.proofs.Laws.{Accepted, after-taken, after-passed, kept, load-fits, taken-inside}
 use Rattle.merging.specs.Running.{Run, ran, pickedPort, jumpsOf, jumpsIn}
 use Rattle.merging.specs.Plain.{cleanBytes, dataBytes, headerBytes, frameBytes, plainFrom, headerIn, announced, complete, jumpIn}
-use Rattle.merging.proofs.Splitting.{short, unpassed, header-bytes, behind, all-there, announced-there}
+use Rattle.merging.proofs.Splitting.{short, unpassed, header-bytes, all-there, announced-there}
 
 -- what demand 3 says of a plain list, for a run
 pub record Ends (selected sram plain : List ℕ) (run : Run) : Type 0 where

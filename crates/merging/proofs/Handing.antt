@@ -1,12 +1,12 @@
 -- A list of flat lists from a place on: its next item, and the run of the rest.
-use Prim.Native.Nat.{ℕ, suc, _+_, _*_, _-_, _≤_, _<_}
+use Prim.Native.Nat.{ℕ, _+_, _*_, _-_, _≤_, _<_}
 use native.Mathlib.Nat.{add-zero}
 use native.Mathlib.Numerals.{add-one}
 use native.Mathlib.Omega.{arith}
 use mathlib.Core.Path.{_≡_, refl, sym, ap, _∙_}
 use mathlib.Core.List.{List, [], _∷_, _++_, append-assoc, append-nil}
-use mathlib.Core.Bool.{Bool, true, _&&_, and-eq-true-iff}
-use borrow.Author.Tests.{eqb-true, leb-true, le-leb}
+use mathlib.Core.Bool.{true, _&&_, and-eq-true-iff}
+use borrow.Author.Tests.{eqb-true, leb-true}
 use Rattle.octets.specs.Write.{filled}
 use Rattle.octets.proofs.Lending.{lent, back, put-back}
 use lib.Dec.{leb, eqb}
@@ -16,11 +16,11 @@ use Rattle.session.specs.declared.Answer.{Answer}
 use Rattle.session.specs.declared.Outcome.{Outcome}
 use Rattle.session.specs.declared.Reply.{Reply}
 use Rattle.session.specs.declared.Session.{Session}
-use Rattle.session.specs.Answers.{After, asAfter}
+use Rattle.session.specs.Answers.{asAfter}
 use Rattle.session.specs.Items.{Item}
 use Rattle.session.specs.Rules.{after}
 use Rattle.numbers.specs.Writing.{jumpNumbers, answerNumbers}
-use Rattle.merging.specs.Running.{Run, ran}
+use Rattle.merging.specs.Running.{ran}
 use Rattle.merging.specs.Listing.{itemOf, itemsOf, kindFits, partsFit, listFits, answerRows, asListAfter, listRan}
 
 module _ (kinds counts : List ℕ) (i : ℕ) (h : i < length kinds) where

@@ -1,13 +1,12 @@
 -- A session that has opened takes no item of the other port, so a list and its stream run alike.
 use Prim.Native.Nat.{ℕ}
-use native.Mathlib.Omega.{arith}
 use mathlib.Core.Path.{_≡_, refl, sym, ap, _∙_}
 use mathlib.Core.List.{List, [], _∷_, _++_}
-use mathlib.Core.Bool.{Bool, true, false, cond, not, _&&_, and-eq-true-iff, true≢false, false≢true}
-use mathlib.Core.Option.{Option, none, some}
-use borrow.Author.Tests.{eqb-true, eqb-false}
+use mathlib.Core.Bool.{Bool, true, false, true≢false, false≢true}
+use mathlib.Core.Option.{some}
+use borrow.Author.Tests.{eqb-false}
 use lib.Dec.{eqb}
-use lib.ListN.{length, replicate}
+use lib.ListN.{length}
 use Rattle.header.specs.declared.Header.{Header}
 use Rattle.header.specs.Reading.{headerOf, announcesNone, within}
 use Rattle.password.specs.Passing.{passes}
@@ -17,10 +16,10 @@ use Rattle.session.specs.declared.Port.{Port}
 use Rattle.session.specs.declared.Session.{Session}
 use Rattle.session.specs.declared.Stage.{Stage}
 use Rattle.session.specs.Answers.{notTaken, unchanged}
-use Rattle.session.specs.Items.{Item, wellFormed, portOf, bytesOf, opens}
+use Rattle.session.specs.Items.{Item, portOf, bytesOf, opens}
 use Rattle.session.specs.Rules.{takes, moved, keeps, takenBy, after, received, passwordMoved, headerMoved, checked, judged, loaded}
 use Rattle.session.proofs.Laws.{Accepted, taken-formed, after-taken, after-passed, kept, eight-long, received-all}
-use Rattle.merging.specs.Running.{Run, ran, pickedPort, samePort, inStream, only, answersTo}
+use Rattle.merging.specs.Running.{ran, pickedPort, samePort, inStream, only, answersTo}
 use Rattle.session.specs.Fresh.{freshSession}
 use Rattle.merging.specs.Merging.{Passed}
 

@@ -1,17 +1,16 @@
 -- A plain list taken apart: password, header and what follows.
-use Prim.Native.Nat.{ℕ, _+_, _≤_, _<_}
+use Prim.Native.Nat.{ℕ, _+_, _<_}
 use native.Mathlib.Omega.{arith}
-use mathlib.Core.Path.{_≡_, refl, sym, ap, _∙_}
-use mathlib.Core.List.{List, [], _∷_, _++_, append-assoc}
-use mathlib.Core.Bool.{Bool, true, false, cond, _&&_, and-false}
+use mathlib.Core.Path.{_≡_, _∙_}
+use mathlib.Core.List.{List, _++_, append-assoc}
+use mathlib.Core.Bool.{true, false, _&&_, and-false}
 use borrow.Author.Tests.{le-leb, lt-leb}
 use lib.Dec.{leb}
 use lib.ListN.{length, take, drop, length-append}
 use lib.Seq.{take-at, drop-at}
-use Rattle.header.specs.declared.Header.{Header}
 use Rattle.header.specs.Reading.{headerOf, fits}
 use Rattle.password.specs.Passing.{passes}
-use Rattle.merging.specs.Plain.{headerIn, announced, complete}
+use Rattle.merging.specs.Plain.{announced, complete}
 
 -- a plain list of fewer than 16 bytes
 pub short : (selected plain : List ℕ) → length plain < 16 → complete selected plain ≡ false

@@ -3,21 +3,18 @@ use Prim.Native.Nat.{ℕ, _-_}
 use native.Mathlib.Omega.{arith}
 use mathlib.Core.Path.{_≡_, refl, sym, subst, ap, _∙_}
 use mathlib.Core.List.{List, [], _∷_, _++_}
-use mathlib.Core.Bool.{Bool, true, false, cond, true≢false, and-true, and-false}
+use mathlib.Core.Bool.{Bool, true, false, cond, true≢false, and-false}
 use mathlib.Core.Option.{Option, none, some}
-use lib.Dec.{eqb}
-use lib.ListN.{length, replicate}
+use lib.ListN.{length}
 use Rattle.header.specs.Reading.{headerOf}
-use Rattle.sram.specs.Region.{size, rightSize}
-use Rattle.session.specs.declared.Load.{Load}
+use Rattle.sram.specs.Region.{rightSize}
 use Rattle.session.specs.declared.Port.{Port}
-use Rattle.session.specs.declared.Stage.{Stage}
 use Rattle.session.specs.Fresh.{freshSession}
 use Rattle.session.specs.Items.{Item, wellFormed, eightUnder, dataUnder}
 use Rattle.session.specs.Sound.{sound}
 use Rattle.session.proofs.Laws.{Accepted, eight-formed, data-formed}
-use Rattle.merging.specs.Running.{ran, pickedPort, inStream, only, streamOf}
-use Rattle.merging.specs.Plain.{cleanBytes, dataBytes, headerBytes, frameBytes, plainFrom, plainOf}
+use Rattle.merging.specs.Running.{pickedPort, inStream, only}
+use Rattle.merging.specs.Plain.{cleanBytes, dataBytes, headerBytes, frameBytes, plainFrom}
 use Rattle.merging.specs.Merging.{Merging}
 use Rattle.merging.proofs.Ports.{Along, along, alike, others}
 use Rattle.merging.proofs.Forward.{forward}

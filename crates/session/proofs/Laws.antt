@@ -1,12 +1,12 @@
 -- What a call does where neither 7 nor 8 is due, and that neither is due after it.
-use Prim.Native.Nat.{ℕ, _+_, _-_, _≤_, _<_}
+use Prim.Native.Nat.{ℕ, _+_, _-_, _≤_}
 use native.Mathlib.Omega.{arith}
-use mathlib.Core.Path.{_≡_, refl, sym, ap, _∙_}
-use mathlib.Core.List.{List, [], _∷_, _++_}
-use mathlib.Core.Bool.{Bool, true, false, cond, not, _&&_, and-eq-true-iff, and-assoc, false≢true}
-use borrow.Author.Tests.{eqb-true, eqb-false, leb-true, le-leb, eq-eqb, not-true}
+use mathlib.Core.Path.{_≡_, refl}
+use mathlib.Core.List.{List, [], _∷_}
+use mathlib.Core.Bool.{Bool, true, false, cond, _&&_, and-eq-true-iff, false≢true}
+use borrow.Author.Tests.{eqb-true, eqb-false, leb-true, le-leb, eq-eqb}
 use lib.Dec.{leb, eqb}
-use lib.ListN.{length, take, replicate, length-append, length-take}
+use lib.ListN.{length, take, length-append, length-take}
 use native.Mathlib.Nat.{min-le-left}
 use Rattle.octets.specs.Read.{wordAt}
 use Rattle.header.specs.declared.Header.{Header}
@@ -18,13 +18,12 @@ use Rattle.session.specs.declared.Fault.{Fault}
 use Rattle.session.specs.declared.Load.{Load}
 use Rattle.session.specs.declared.Outcome.{Outcome}
 use Rattle.session.specs.declared.Port.{Port}
-use Rattle.session.specs.declared.Refusal.{Refusal}
 use Rattle.session.specs.declared.Session.{Session}
 use Rattle.session.specs.declared.Stage.{Stage}
-use Rattle.session.specs.Answers.{After, notTaken, unchanged}
+use Rattle.session.specs.Answers.{notTaken, unchanged}
 use Rattle.session.specs.Items.{Item, wellFormed, portOf, bytesOf, eightUnder, dataUnder}
 use Rattle.session.specs.Sound.{loadSound, soundIn, sound}
-use Rattle.session.specs.Rules.{takes, moved, keeps, takenBy, ruled, after, received, passwordMoved, headerMoved, checked, judged, loaded, loadFrom, advanced}
+use Rattle.session.specs.Rules.{takes, moved, keeps, takenBy, ruled, after, received, passwordMoved, headerMoved, checked, judged, loaded, loadFrom}
 
 -- neither 7 nor 8 is due
 pub record Accepted (session : Session) (sram : List ℕ) : Type 0 where

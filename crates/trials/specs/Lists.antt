@@ -38,10 +38,11 @@ jumping =
     ∷ Item.Frame 0x013 (0xDD ∷ [])
     ∷ []
 
--- by serial, start 0x40000004, 2 bytes announced, of which the second comes faulty
+-- bytes as clean items
 abbrev clean : List ℕ → List Item
 clean bytes = map (λ (byte : ℕ). Item.Byte byte false) bytes
 
+-- by serial, start 0x40000004, 2 bytes announced, of which the second comes faulty
 abbrev lacking : List Item
 lacking =
     (Item.Byte 0xFE true ∷ Item.Frame 0x013 (0x77 ∷ []) ∷ Item.Byte 0xFE false ∷ Item.Frame 0x011 publicPassword ∷ [])

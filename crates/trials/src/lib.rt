@@ -1,5 +1,5 @@
-// The trial cases that 01 marks P, P1 to P12. The function does nothing: its contract is the claim that the rules give what 01 says
-// in every case of the table in specs/.
+// Claims about the rules, as contracts of functions that do nothing. First the trial cases that 01 marks P, P1 to P12: the rules give
+// what 01 says in every case of the table in specs/.
 ghost use Rattle.trials.specs.Trials.{table, Agree};
 ghost use Rattle.trials.specs.Lists.{listTable};
 ghost use Rattle.trials.specs.Rows.{RowsHold};

@@ -1,5 +1,4 @@
 -- `merging::hand_in` meets its contract: a frame, and a serial byte.
-use denote.Ref.{now}
 use borrow.Author.Tests.{eq-eqb, ne-eqb}
 use Rattle.merging.specs.Listing.{itemOf}
 use borrow.Author.Needs.{needs}

@@ -1,5 +1,5 @@
 -- `merging::parts_fit` meets its contract: with i items looked at, all fit when the rest fit the bytes that are left.
-use Prim.Native.Nat.{_+_, _≤_, _-_}
+use Prim.Native.Nat.{_≤_, _-_}
 use native.Mathlib.Omega.{arith}
 use mathlib.Core.Path.{_≡_, refl, sym, _∙_}
 use mathlib.Core.Bool.{and-false}

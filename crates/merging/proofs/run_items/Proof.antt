@@ -1,5 +1,5 @@
 -- `merging::run_items` meets its contract: after i items the run of all is what was written and the run of the rest.
-use Prim.Native.Nat.{ℕ, _+_, _*_, _≤_, _-_}
+use Prim.Native.Nat.{_+_, _≤_, _-_}
 use native.Mathlib.Omega.{arith}
 use mathlib.Core.Path.{_≡_}
 use lib.ListN.{length, getD}
