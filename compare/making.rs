@@ -175,7 +175,7 @@ impl Maker {
         }
     }
 
-    /// The plan's next item in this session. Data frames are now and then too long.
+    /// The plan's next item, by the stage that it has reached. Data frames are now and then too long.
     fn next_item(&mut self, plan: &Plan, session: &Session) -> Item {
         let held = session.held.len();
         match session.stage {
