@@ -19,11 +19,6 @@ same-equal (a ∷ l) (b ∷ m) e =
     let h = and-eq-true-iff (eqb a b) (same l m) .0 e in
     rw (eqb-true a b (h .0), same-equal l m (h .1))
 
-pub same-refl : (l : List ℕ) → same l l ≡ true
-unfolding same
-same-refl [] = refl
-same-refl (a ∷ l) = rw (eq-eqb a a refl, same-refl l)
-
 module _ (a b : List ℕ) (i : ℕ) where
   pub same-on
       : i < length a
