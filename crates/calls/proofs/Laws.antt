@@ -1,59 +1,57 @@
--- How many numbers there are, what follows where neither 7 nor 8 is due, and what an item leaves.
-use Prim.Native.Nat.{ℕ, _≤_}
+-- What follows where nothing is due, and what an item leaves.
+use Prim.Native.Nat.{ℕ}
 use native.Mathlib.Omega.{arith}
 use mathlib.Core.Path.{_≡_, refl, sym, ap, _∙_}
 use mathlib.Core.List.{List, []}
-use mathlib.Core.Bool.{Bool, true, false, cond, _&&_}
+use mathlib.Core.Bool.{Bool, true, false, cond}
+use borrow.Author.Tests.{eqb-true}
+use lib.Dec.{eqb}
 use lib.ListN.{length}
-use Rattle.octets.proofs.Comparing.{same-equal}
-use Rattle.sram.specs.Region.{rightSize}
-use Rattle.session.specs.declared.Fault.{Fault}
-use Rattle.session.specs.declared.Outcome.{Outcome}
-use Rattle.session.specs.declared.Refusal.{Refusal}
+use Rattle.stages.specs.declared.Session.{Session}
+use Rattle.session.specs.declared.Due.{Due}
 use Rattle.session.specs.declared.Reply.{Reply}
-use Rattle.session.specs.declared.Session.{Session}
-use Rattle.session.specs.declared.Stage.{Stage}
-use Rattle.session.specs.Answers.{After, asAfter, numberOf}
-use Rattle.session.specs.Sound.{sound}
-use Rattle.numbers.specs.Writing.{loadNumbers, sessionNumbers}
-use Rattle.numbers.specs.Reading.{sessionRead, encodes}
-use Rattle.calls.specs.Crossing.{asReply, leaves, sessionDue}
+use Rattle.session.specs.Answers.{After, asAfter, firstDue}
+use Rattle.session.proofs.Laws.{nothing-due, fault-some}
+use Rattle.numbers.specs.Reading.{sessionIn}
+use Rattle.numbers.proofs.Lengths.{sound-length}
+use Rattle.merging.specs.Listing.{itemsOf, listFits, ListAfter, listDue, listAfter}
+use Rattle.calls.specs.Crossing.{asReply, leaves, dueNumber, itemDue}
 
-load-length : (stage : Stage) → length (loadNumbers stage) ≡ 5
-load-length Stage.Waiting = refl
-load-length Stage.Password = refl
-load-length (Stage.Header port) = refl
-load-length (Stage.Data port load) = refl
-load-length (Stage.Stopped refusal) = refl
-load-length (Stage.Jumped jump) = refl
+-- numbers of a session for which nothing is due
+due-length : (session sram : List ℕ) (formed : Bool) → firstDue (sessionIn session) sram formed ≡ Due.Nothing → length session ≡ 24
+due-length session sram formed e = sound-length session (nothing-due (sessionIn session) sram formed e .0 .fine)
 
-pub session-length : (session : Session) → length (sessionNumbers session) ≡ 24
-session-length session = rw (load-length (session .stage))
+-- an item for which nothing is due has room for its session and its answer
+pub item-room : (session sram : List ℕ) (formed : Bool) (room : ℕ) → itemDue (sessionIn session) sram formed room ≡ 0
+    → (length session ≡ 24) × (room ≡ 13)
+unfolding itemDue
+item-room session sram formed room e = by (firstDue (sessionIn session) sram formed) refl e
+  where
+    nine : (b : Bool) → _≡_ {A = ℕ} (cond b 0 9) 0 → b ≡ true
+    nine true e = refl
+    nine false e = absurd (omega arith)
 
--- a number of an outcome fits a byte
-pub number-small : (outcome : Outcome) → numberOf outcome ≤ 8
-number-small Outcome.Taken = omega arith
-number-small Outcome.Ignored = omega arith
-number-small (Outcome.Stops Refusal.Password) = omega arith
-number-small (Outcome.Stops Refusal.Length) = omega arith
-number-small (Outcome.Stops Refusal.Range) = omega arith
-number-small (Outcome.Jumps jump) = omega arith
-number-small (Outcome.Refused Fault.Form) = omega arith
-number-small (Outcome.Refused Fault.Size) = omega arith
-number-small (Outcome.Refused Fault.Unsound) = omega arith
+    by : (due : Due) → firstDue (sessionIn session) sram formed ≡ due → dueNumber due room ≡ 0
+        → (length session ≡ 24) × (room ≡ 13)
+    by Due.Nothing none e = (due-length session sram formed none, eqb-true room 13 (nine (eqb room 13) e))
+    by (Due.Refused fault) is-due e = absurd (fault-some fault e)
 
-encoded : (right these fine : Bool) → _≡_ {A = ℕ} (cond right (cond (these && fine) 0 8) 7) 0 → these ≡ true
-encoded true true fine e = refl
-encoded true false fine e = absurd (omega arith)
-encoded false these fine e = absurd (omega arith)
-
--- numbers of a session that is not refused
-pub due-length : (session sram : List ℕ) → sessionDue session sram ≡ 0 → length session ≡ 24
-unfolding sessionDue encodes
-due-length session sram e =
-    let read = sessionRead session in
-    sym (ap length (same-equal (sessionNumbers read) session (encoded (rightSize sram) (encodes session) (sound read) e)))
-    ∙ session-length read
+-- a list that gets 0 has room for its session
+pub list-length : (session sram kinds identifiers counts bytes answers : List ℕ) (leaves : ListAfter)
+    → leaves ≡ listAfter (sessionIn session) sram kinds identifiers counts bytes answers
+    → leaves .number ≡ 0
+    → length session ≡ 24
+unfolding listAfter
+list-length session sram kinds identifiers counts bytes answers leaves e zero =
+    by (firstDue (sessionIn session) sram (listFits kinds identifiers counts (length bytes) (length answers))) refl
+    (sym (ap (λ (l : ListAfter). l .number) e) ∙ zero)
+  where
+    by : (due : Due)
+        → firstDue (sessionIn session) sram (listFits kinds identifiers counts (length bytes) (length answers)) ≡ due
+        → listDue due (sessionIn session) sram (itemsOf kinds identifiers counts bytes) answers .number ≡ 0
+        → length session ≡ 24
+    by Due.Nothing none e = due-length session sram (listFits kinds identifiers counts (length bytes) (length answers)) none
+    by (Due.Refused fault) is-due e = absurd (fault-some fault e)
 
 -- what an item leaves, from what is written of its reply and what it leaves of SRAM
 pub reply-leaves : (reply : Reply) (number : ℕ) (session sram answer : List ℕ) (next : After)

@@ -5,27 +5,13 @@ ghost use mathlib.Core.List.{[]};
 ghost use lib.Dec.{eqb};
 ghost use lib.ListN.{length};
 ghost use Rattle.session.specs.Answers.{asAfter};
-ghost use Rattle.session.specs.Items.{Item};
+ghost use Rattle.stages.specs.Items.{Item};
 ghost use Rattle.numbers.specs.Writing.{sessionNumbers};
-ghost use Rattle.calls.specs.Crossing.{asReply, sessionDue, itemReply, leaves, listReply, asFreshReply, freshReply};
+ghost use Rattle.calls.specs.Crossing.{asReply, itemDue, itemReply, leaves, listReply, asFreshReply, freshReply};
+use session::Due;
+use session::Outcome;
 use session::Reply;
-use session::Session;
-
-// 7, then 8, or 0.
-fn due(session: &[u32], sram: &[u8]) -> u8
-    ensures { λ r. ⌜ r ≡ sessionDue (now (session .entry)) (now (sram .entry)) ⌝ }
-{
-    if !sram::is_whole(sram) {
-        return 7;
-    }
-    if !numbers::is_session(session) {
-        return 8;
-    }
-    if !session::is_sound(numbers::read_session(session)) {
-        return 8;
-    }
-    0
-}
+use stages::Session;
 
 // Writes the numbers of a session.
 fn put_session(out: &mut [u32], session: Session)
@@ -49,7 +35,21 @@ fn put_reply(session: &mut [u32], answer: &mut [u32], reply: Reply) -> u8
     let written = numbers::answer_numbers(said);
     octets::fill_words(answer, &written[..]);
     let outcome = said.outcome;
-    numbers::outcome_number(outcome) as u8
+    numbers::outcome_number(outcome)
+}
+
+// What is due before an item: 7, then 8, then 6, then 9 for an answer that has not 13 places; or 0.
+fn item_due(session: Session, sram: &[u8], formed: bool, room: usize) -> u8
+    ensures { λ r. ⌜ r ≡ itemDue session (now (sram .entry)) formed room ⌝ }
+{
+    let due = session::first_due(session, sram, formed);
+    if let Due::Refused(fault) = due {
+        return numbers::outcome_number(Outcome::Refused(fault));
+    }
+    if room == 13 {
+        return 0;
+    }
+    9
 }
 
 // One CAN frame.
@@ -65,20 +65,13 @@ pub fn frame(
         ≡ itemReply (now (session .entry)) (now (sram .entry)) (Item.Frame identifier (now («data» .entry))) (now (answer .entry))
         ⌝ }
 {
-    let refusal = due(session, sram);
-    if refusal != 0 {
-        return refusal;
+    let read = numbers::read_session(session);
+    let formed = (identifier <= 2047) & (data.len() <= 8);
+    let due = item_due(read, sram, formed, answer.len());
+    if due != 0 {
+        return due;
     }
-    if 2047 < identifier {
-        return 6;
-    }
-    if 8 < data.len() {
-        return 6;
-    }
-    if answer.len() != 13 {
-        return 9;
-    }
-    let reply = session::frame(numbers::read_session(session), sram, identifier, data);
+    let reply = session::frame(read, sram, identifier, data);
     put_reply(session, answer, reply)
 }
 
@@ -89,14 +82,12 @@ pub fn byte(session: &mut [u32], sram: &mut [u8], value: u8, mark: u8, answer: &
         ≡ itemReply (now (session .entry)) (now (sram .entry)) (Item.Byte value (not (eqb mark 0))) (now (answer .entry))
         ⌝ }
 {
-    let refusal = due(session, sram);
-    if refusal != 0 {
-        return refusal;
+    let read = numbers::read_session(session);
+    let due = item_due(read, sram, true, answer.len());
+    if due != 0 {
+        return due;
     }
-    if answer.len() != 13 {
-        return 9;
-    }
-    let reply = session::byte(numbers::read_session(session), sram, value, mark != 0);
+    let reply = session::byte(read, sram, value, mark != 0);
     put_reply(session, answer, reply)
 }
 
@@ -115,10 +106,6 @@ pub fn list(
         ≡ listReply (now (session .entry)) (now (sram .entry)) (now (kinds .entry)) (now (identifiers .entry)) (now (counts .entry)) (now (bytes .entry)) (now (answers .entry))
         ⌝ }
 {
-    let refusal = due(session, sram);
-    if refusal != 0 {
-        return refusal;
-    }
     let reply = merging::run(
         numbers::read_session(session),
         sram,
@@ -137,13 +124,10 @@ pub fn list(
     0
 }
 
-// A fresh session.
+// A fresh session, from the number of a way to boot and the password selected.
 pub fn fresh(mode: u8, password: &[u8], session: &mut [u32]) -> u8
     ensures { λ r. ⌜ asFreshReply r (now (session .exit)) ≡ freshReply mode (now (password .entry)) (now (session .entry)) ⌝ }
 {
-    if mode < 2 {
-        return 9;
-    }
     if 4 < mode {
         return 9;
     }
@@ -153,6 +137,11 @@ pub fn fresh(mode: u8, password: &[u8], session: &mut [u32]) -> u8
     if session.len() != 24 {
         return 9;
     }
-    put_session(session, session::waiting(octets::first_eight(password)));
-    0
+    let start = stages::fresh_in(choices::mode_of(mode), octets::first_eight(password));
+    if start.serial {
+        let fresh = start.session;
+        put_session(session, fresh);
+        return 0;
+    }
+    9
 }

@@ -1,14 +1,13 @@
 -- The claim of `merging::run` follows from its equation.
 use Prim.Native.Nat.{ℕ}
-use native.Mathlib.Omega.{arith}
-use mathlib.Core.Path.{_≡_, refl, ap, _∙_}
+use mathlib.Core.Path.{_≡_, refl, sym, ap, _∙_}
 use mathlib.Core.List.{List}
-use mathlib.Core.Bool.{Bool, true, false}
 use lib.ListN.{length}
-use Rattle.sram.specs.Region.{rightSize}
-use Rattle.session.specs.declared.Session.{Session}
-use Rattle.session.specs.Fresh.{freshSession}
-use Rattle.session.specs.Sound.{sound}
+use Rattle.stages.specs.declared.Session.{Session}
+use Rattle.stages.specs.Fresh.{freshSession}
+use Rattle.session.specs.declared.Due.{Due}
+use Rattle.session.specs.Answers.{faultNumber, firstDue}
+use Rattle.session.proofs.Laws.{nothing-due, fault-some}
 use Rattle.merging.specs.Running.{ran}
 use Rattle.merging.specs.Listing.{itemsOf, listFits, ListAfter, asListAfter, listRan, listAfter, ListMerged, ListClaim}
 use Rattle.merging.proofs.Stream.{merging}
@@ -17,36 +16,24 @@ module _ (session : Session) (sram kinds identifiers counts bytes answers : List
     (e : leaves ≡ listAfter session sram kinds identifiers counts bytes answers) (eight : length (session .selected) ≡ 8) where
   -- a call that gets 0 was refused for nothing
   answered
-      : (a b c : Bool)
-      → rightSize sram ≡ a
-      → sound session ≡ b
-      → listFits kinds identifiers counts (length bytes) (length answers) ≡ c
+      : (due : Due)
+      → firstDue session sram (listFits kinds identifiers counts (length bytes) (length answers)) ≡ due
       → session ≡ freshSession (session .selected)
       → leaves .number ≡ 0
       → ListMerged (session .selected) sram (itemsOf kinds identifiers counts bytes) leaves
   unfolding listAfter
-  answered true true true p q r fresh zero =
+  answered Due.Nothing none-due fresh zero =
+      let items = itemsOf kinds identifiers counts bytes in
       record {
-        is-run = e ∙ rw (p, q, r) (ap (λ (s : Session). listRan (ran s sram (itemsOf kinds identifiers counts bytes))) fresh);
-        merging = merging (session .selected) sram (itemsOf kinds identifiers counts bytes) eight p;
+        is-run = e ∙ rw none-due (ap (λ (s : Session). listRan (ran s sram items)) fresh);
+        merging = merging (session .selected) sram items eight (nothing-due session sram _ none-due .0 .right);
       }
-  answered true true false p q r fresh zero =
-      let six : leaves ≡ asListAfter 6 session sram answers = e ∙ rw (p, q, r) in
-      absurd (omega (arith, zero, ap (λ (l : ListAfter). l .number) six))
-  answered true false c p q r fresh zero =
-      let eight′ : leaves ≡ asListAfter 8 session sram answers = e ∙ rw (p, q) in
-      absurd (omega (arith, zero, ap (λ (l : ListAfter). l .number) eight′))
-  answered false b c p q r fresh zero =
-      let seven : leaves ≡ asListAfter 7 session sram answers = e ∙ rw p in
-      absurd (omega (arith, zero, ap (λ (l : ListAfter). l .number) seven))
+  answered (Due.Refused fault) is-due fresh zero =
+      let left : leaves ≡ asListAfter (faultNumber fault) session sram answers = e ∙ rw is-due in
+      absurd (fault-some fault (sym (ap (λ (l : ListAfter). l .number) left) ∙ zero))
 
   claim : ListClaim session sram kinds identifiers counts bytes answers leaves
-  claim =
-      record {
-        equation = e;
-        demand-3 =
-            answered (rightSize sram) (sound session) (listFits kinds identifiers counts (length bytes) (length answers)) refl refl refl;
-      }
+  claim = record { equation = e; demand-3 = answered _ refl }
 
 pub claimed : (session : Session) (sram kinds identifiers counts bytes answers : List ℕ) (leaves : ListAfter)
     → length (session .selected) ≡ 8

@@ -15,9 +15,9 @@ use lib.Seq.{drop-cons, drop-drop, getD-drop, take-at, take-all, length-take-le}
 use Rattle.session.specs.declared.Answer.{Answer}
 use Rattle.session.specs.declared.Outcome.{Outcome}
 use Rattle.session.specs.declared.Reply.{Reply}
-use Rattle.session.specs.declared.Session.{Session}
+use Rattle.stages.specs.declared.Session.{Session}
 use Rattle.session.specs.Answers.{asAfter}
-use Rattle.session.specs.Items.{Item}
+use Rattle.stages.specs.Items.{Item}
 use Rattle.session.specs.Rules.{after}
 use Rattle.numbers.specs.Writing.{jumpNumbers, answerNumbers}
 use Rattle.merging.specs.Running.{ran}

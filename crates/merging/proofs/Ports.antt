@@ -7,20 +7,22 @@ use mathlib.Core.Option.{some}
 use borrow.Author.Tests.{eqb-false}
 use lib.Dec.{eqb}
 use lib.ListN.{length}
-use Rattle.header.specs.declared.Header.{Header}
-use Rattle.header.specs.Reading.{headerOf, announcesNone, within}
+use Rattle.header.specs.declared.Verdict.{Verdict}
+use Rattle.header.specs.Reading.{verdictOf}
 use Rattle.password.specs.Passing.{passes}
 use Rattle.session.specs.declared.Answer.{Answer}
-use Rattle.session.specs.declared.Load.{Load}
-use Rattle.session.specs.declared.Port.{Port}
-use Rattle.session.specs.declared.Session.{Session}
-use Rattle.session.specs.declared.Stage.{Stage}
+use Rattle.stages.specs.declared.Load.{Load}
+use Rattle.stages.specs.declared.Port.{Port}
+use Rattle.stages.specs.declared.Session.{Session}
+use Rattle.stages.specs.declared.Stage.{Stage}
 use Rattle.session.specs.Answers.{notTaken, unchanged}
-use Rattle.session.specs.Items.{Item, portOf, bytesOf, opens}
-use Rattle.session.specs.Rules.{takes, moved, keeps, takenBy, after, received, passwordMoved, headerMoved, checked, judged, loaded}
-use Rattle.session.proofs.Laws.{Accepted, taken-formed, after-taken, after-passed, kept, eight-long, received-all}
+use Rattle.stages.specs.Items.{Item, portOf, bytesOf, opens}
+use Rattle.stages.specs.Taking.{takes}
+use Rattle.session.specs.Rules.{moved, keeps, takenBy, after, received, passwordMoved, headerMoved, checked, judged, loaded}
+use Rattle.stages.proofs.Laws.{taken-formed, eight-long}
+use Rattle.session.proofs.Laws.{Accepted, after-taken, after-passed, kept, received-all}
 use Rattle.merging.specs.Running.{ran, pickedPort, samePort, inStream, only, answersTo}
-use Rattle.session.specs.Fresh.{freshSession}
+use Rattle.stages.specs.Fresh.{freshSession}
 use Rattle.merging.specs.Merging.{Passed}
 
 -- the stage takes items of no other port than this one
@@ -36,43 +38,37 @@ same-own : (port : Port) → samePort port port ≡ true
 same-own Port.Can = refl
 same-own Port.Serial = refl
 
-other-ignored : (port : Port) (item : Item) (stage : Stage) → opened port stage ≡ true → samePort port (portOf item) ≡ false
-    → takes stage item ≡ false
+-- an item that such a stage takes is of this port
+taken-own : (port : Port) (stage : Stage) (item : Item) → opened port stage ≡ true → takes stage item ≡ true
+    → samePort port (portOf item) ≡ true
 unfolding takes
-other-ignored Port.Can (Item.Frame identifier frame) stage t e = absurd (true≢false e)
-other-ignored Port.Can (Item.Byte byte faulty) Stage.Waiting t e = absurd (false≢true t)
-other-ignored Port.Can (Item.Byte byte faulty) Stage.Password t e = absurd (false≢true t)
-other-ignored Port.Can (Item.Byte byte faulty) (Stage.Header Port.Can) t e = refl
-other-ignored Port.Can (Item.Byte byte faulty) (Stage.Header Port.Serial) t e = absurd (false≢true t)
-other-ignored Port.Can (Item.Byte byte faulty) (Stage.Data Port.Can load) t e = refl
-other-ignored Port.Can (Item.Byte byte faulty) (Stage.Data Port.Serial load) t e = absurd (false≢true t)
-other-ignored Port.Can (Item.Byte byte faulty) (Stage.Stopped refusal) t e = refl
-other-ignored Port.Can (Item.Byte byte faulty) (Stage.Jumped jump) t e = refl
-other-ignored Port.Serial (Item.Byte byte faulty) stage t e = absurd (true≢false e)
-other-ignored Port.Serial (Item.Frame identifier frame) Stage.Waiting t e = absurd (false≢true t)
-other-ignored Port.Serial (Item.Frame identifier frame) Stage.Password t e = refl
-other-ignored Port.Serial (Item.Frame identifier frame) (Stage.Header Port.Can) t e = absurd (false≢true t)
-other-ignored Port.Serial (Item.Frame identifier frame) (Stage.Header Port.Serial) t e = refl
-other-ignored Port.Serial (Item.Frame identifier frame) (Stage.Data Port.Can load) t e = absurd (false≢true t)
-other-ignored Port.Serial (Item.Frame identifier frame) (Stage.Data Port.Serial load) t e = refl
-other-ignored Port.Serial (Item.Frame identifier frame) (Stage.Stopped refusal) t e = refl
-other-ignored Port.Serial (Item.Frame identifier frame) (Stage.Jumped jump) t e = refl
+taken-own port Stage.Waiting item t e = absurd (false≢true t)
+taken-own port Stage.Password (Item.Frame identifier frame) t e = absurd (false≢true e)
+taken-own port Stage.Password (Item.Byte byte faulty) t e = t
+taken-own port (Stage.Header Port.Can) (Item.Frame identifier frame) t e = t
+taken-own port (Stage.Header Port.Can) (Item.Byte byte faulty) t e = absurd (false≢true e)
+taken-own port (Stage.Header Port.Serial) (Item.Frame identifier frame) t e = absurd (false≢true e)
+taken-own port (Stage.Header Port.Serial) (Item.Byte byte faulty) t e = t
+taken-own port (Stage.Data Port.Can load) (Item.Frame identifier frame) t e = t
+taken-own port (Stage.Data Port.Can load) (Item.Byte byte faulty) t e = absurd (false≢true e)
+taken-own port (Stage.Data Port.Serial load) (Item.Frame identifier frame) t e = absurd (false≢true e)
+taken-own port (Stage.Data Port.Serial load) (Item.Byte byte faulty) t e = t
+taken-own port (Stage.Stopped refusal) item t e = absurd (false≢true e)
+taken-own port (Stage.Jumped jump) item t e = absurd (false≢true e)
 
 -- A stage after the opening is opened to the port that opened.
 
 module _ (port ours : Port) (session : Session) (same : samePort port ours ≡ true) where
   checked-opened : (bytes : List ℕ) (b : Bool) → passes bytes (session .selected) ≡ b
-      → opened port (checked session ours bytes .session .stage) ≡ true
+      → opened port (checked (session .selected) ours bytes .session .stage) ≡ true
   unfolding checked
   checked-opened bytes true e = rw e same
   checked-opened bytes false e = rw e
 
-  judged-opened : (header : Header) (a b : Bool) → announcesNone header ≡ a → within header ≡ b
-      → opened port (judged session ours header .session .stage) ≡ true
-  unfolding judged
-  judged-opened header true b e f = rw e
-  judged-opened header false true e f = rw (e, f) same
-  judged-opened header false false e f = rw (e, f)
+  judged-opened : (verdict : Verdict) → opened port (judged (session .selected) ours verdict .session .stage) ≡ true
+  judged-opened Verdict.NoBytes = refl
+  judged-opened Verdict.Outside = refl
+  judged-opened (Verdict.Fits header) = same
 
   password-opened : (bytes : List ℕ) (b : Bool) → eqb (length bytes) 8 ≡ b → (b ≡ false → opened port Stage.Password ≡ true)
       → opened port (passwordMoved session ours bytes .session .stage) ≡ true
@@ -83,12 +79,11 @@ module _ (port ours : Port) (session : Session) (same : samePort port ours ≡ t
   header-opened : (bytes : List ℕ) (b : Bool) → eqb (length bytes) 8 ≡ b
       → opened port (headerMoved session ours bytes .session .stage) ≡ true
   unfolding headerMoved
-  header-opened bytes true e =
-      rw e (judged-opened (headerOf bytes) (announcesNone (headerOf bytes)) (within (headerOf bytes)) refl refl)
+  header-opened bytes true e = rw e (judged-opened (verdictOf bytes))
   header-opened bytes false e = rw e same
 
   loaded-opened : (load : Load) (count : ℕ) (b : Bool) → eqb count (load .owed) ≡ b
-      → opened port (loaded session ours load count .session .stage) ≡ true
+      → opened port (loaded (session .selected) ours load count .session .stage) ≡ true
   unfolding loaded
   loaded-opened load count true e = rw e
   loaded-opened load count false e = rw e same
@@ -127,30 +122,31 @@ Along wanted session sram (item ∷ items) =
     (wanted item ≡ false → after session sram item ≡ unchanged (notTaken item) session sram)
     × Along wanted (after session sram item .session) (after session sram item .sram) items
 
-taken-wanted : (port : Port) (stage : Stage) (item : Item) (b : Bool) → samePort port (portOf item) ≡ b → opened port stage ≡ true
-    → takes stage item ≡ true → inStream (some port) item ≡ true
-taken-wanted port stage item true s t e = rw (taken-formed stage item e, s)
-taken-wanted port stage item false s t e = absurd (true≢false (sym e ∙ other-ignored port item stage t s))
+-- the next call: it takes an item that is wanted, or passes one by
+module _ (wanted : Item → Bool) (session : Session) (sram : List ℕ) (item : Item) (items : List Item) (ok : Accepted session sram) where
+  along-taken : takes (session .stage) item ≡ true → wanted item ≡ true
+      → Along wanted (moved (session .stage) session (portOf item) (bytesOf item) .session) (keeps (session .stage) sram (bytesOf item)) items
+      → Along wanted session sram (item ∷ items)
+  unfolding takenBy
+  along-taken e want rest = (λ unwanted. absurd (true≢false (sym want ∙ unwanted)), rw (after-taken session sram item ok e) rest)
 
--- the next call, by whether the item is taken
+  along-passed : takes (session .stage) item ≡ false → Along wanted session sram items → Along wanted session sram (item ∷ items)
+  along-passed e rest = let passed = after-passed session sram item ok e in (λ unwanted. passed, rw passed rest)
+
 along-next : (port : Port) (session : Session) (sram : List ℕ) (item : Item) (items : List Item) (b : Bool)
     → takes (session .stage) item ≡ b
     → Accepted session sram
     → opened port (session .stage) ≡ true
     → ((s : Session) (m : List ℕ) → Accepted s m → opened port (s .stage) ≡ true → Along (inStream (some port)) s m items)
     → Along (inStream (some port)) session sram (item ∷ items)
-unfolding takenBy
 along-next port session sram item items true e ok t rest =
-    let wanted = taken-wanted port (session .stage) item (samePort port (portOf item)) refl t e in
     let next = moved (session .stage) session (portOf item) (bytesOf item) .session in
-    let sram′ = keeps (session .stage) sram (bytesOf item) in (
-      λ unwanted. absurd (true≢false (sym wanted ∙ unwanted)),
-      rw (after-taken session sram item ok e)
-          (rest next sram′ (kept session sram item ok e) (stays-opened port (session .stage) session (portOf item) (bytesOf item) t)),
-    )
+    along-taken (inStream (some port)) session sram item items ok e
+    (rw (taken-formed (session .stage) item e, taken-own port (session .stage) item t e))
+    (rest next (keeps (session .stage) sram (bytesOf item)) (kept session sram item ok e)
+    (stays-opened port (session .stage) session (portOf item) (bytesOf item) t))
 along-next port session sram item items false e ok t rest =
-    let passed = after-passed session sram item ok e in
-    (λ unwanted. passed, rw passed (rest session sram ok t))
+    along-passed (inStream (some port)) session sram item items ok e (rest session sram ok t)
 
 along-opened : (port : Port) (session : Session) (sram : List ℕ) (items : List Item) → Accepted session sram
     → opened port (session .stage) ≡ true → Along (inStream (some port)) session sram items
@@ -163,19 +159,16 @@ along-first : (selected sram : List ℕ) (item : Item) (items : List Item) (b : 
     → Accepted (freshSession selected) sram
     → Along (inStream (pickedPort items)) (freshSession selected) sram items
     → Along (inStream (pickedPort (item ∷ items))) (freshSession selected) sram (item ∷ items)
-unfolding pickedPort takenBy takes keeps
+unfolding pickedPort takes keeps
 along-first selected sram item items true e ok rest =
     let session = freshSession selected in
     let port = portOf item in
     let next = moved Stage.Waiting session port (bytesOf item) .session in
-    rw e (
-      λ unwanted. absurd (true≢false (sym (rw (taken-formed Stage.Waiting item e, same-own port) refl) ∙ unwanted)),
-      rw (after-taken session sram item ok e)
-          (along-opened port next sram items (kept session sram item ok e) (opening-opens session item refl e)),
-    )
+    rw e
+    (along-taken (inStream (some port)) session sram item items ok e (rw (taken-formed Stage.Waiting item e, same-own port))
+    (along-opened port next sram items (kept session sram item ok e) (opening-opens session item refl e)))
 along-first selected sram item items false e ok rest =
-    let passed = after-passed (freshSession selected) sram item ok e in
-    rw e (λ unwanted. passed, rw passed rest)
+    rw e (along-passed (inStream (pickedPort items)) (freshSession selected) sram item items ok e rest)
 
 pub along : (selected sram : List ℕ) (items : List Item) → Accepted (freshSession selected) sram
     → Along (inStream (pickedPort items)) (freshSession selected) sram items

@@ -6,12 +6,12 @@ use mathlib.Core.Bool.{Bool, cond, _&&_, _||_}
 use lib.Dec.{leb, eqb}
 use lib.ListN.{length, take, drop, getD}
 use Rattle.octets.specs.Read.{byteAt}
-use Rattle.sram.specs.Region.{rightSize}
 use Rattle.session.specs.declared.Answer.{Answer}
-use Rattle.session.specs.declared.Session.{Session}
-use Rattle.session.specs.Fresh.{freshSession}
-use Rattle.session.specs.Items.{Item}
-use Rattle.session.specs.Sound.{sound}
+use Rattle.session.specs.declared.Due.{Due}
+use Rattle.stages.specs.declared.Session.{Session}
+use Rattle.stages.specs.Fresh.{freshSession}
+use Rattle.stages.specs.Items.{Item}
+use Rattle.session.specs.Answers.{faultNumber, firstDue}
 use Rattle.numbers.specs.Writing.{answerNumbers}
 use Rattle.merging.specs.Running.{Run, ran}
 use Rattle.merging.specs.Merging.{Merging}
@@ -68,15 +68,14 @@ abbrev pub listRan : Run → ListAfter
 listRan run = asListAfter 0 (run .session) (run .sram) (answerRows (run .answers))
 
 -- 7, then 8, then 6 for lists that do not fit each other; a refused call changes nothing
+abbrev pub listDue : Due → Session → List ℕ → List Item → List ℕ → ListAfter
+listDue Due.Nothing session sram items answers = listRan (ran session sram items)
+listDue (Due.Refused fault) session sram items answers = asListAfter (faultNumber fault) session sram answers
+
 unfoldable pub listAfter : Session → List ℕ → List ℕ → List ℕ → List ℕ → List ℕ → List ℕ → ListAfter
 listAfter session sram kinds identifiers counts bytes answers =
-    cond (rightSize sram)
-    (cond (sound session)
-    (cond (listFits kinds identifiers counts (length bytes) (length answers))
-    (listRan (ran session sram (itemsOf kinds identifiers counts bytes)))
-    (asListAfter 6 session sram answers))
-    (asListAfter 8 session sram answers))
-    (asListAfter 7 session sram answers)
+    listDue (firstDue session sram (listFits kinds identifiers counts (length bytes) (length answers))) session sram
+    (itemsOf kinds identifiers counts bytes) answers
 
 -- demand 3 of a list that was run from a fresh session: what the call left is the run of the whole list, and the claim holds of it
 pub record ListMerged (selected sram : List ℕ) (items : List Item) (leaves : ListAfter) : Type 0 where

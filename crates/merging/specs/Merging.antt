@@ -4,9 +4,9 @@ use mathlib.Core.Path.{_≡_}
 use mathlib.Core.List.{List, [], _∷_, _++_}
 use mathlib.Core.Bool.{true, false, cond}
 use Rattle.sram.specs.Region.{stored}
-use Rattle.session.specs.Fresh.{freshSession}
+use Rattle.stages.specs.Fresh.{freshSession}
 use Rattle.session.specs.Answers.{notTaken, unchanged}
-use Rattle.session.specs.Items.{Item}
+use Rattle.stages.specs.Items.{Item}
 use Rattle.session.specs.Rules.{after}
 use Rattle.merging.specs.Running.{Run, ran, pickedPort, inStream, streamOf, answersTo, jumpsIn}
 use Rattle.merging.specs.Plain.{plainOf, headerIn, announced, complete, jumpIn}

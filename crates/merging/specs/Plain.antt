@@ -8,9 +8,9 @@ use lib.Dec.{leb}
 use Rattle.header.specs.declared.Header.{Header}
 use Rattle.header.specs.Reading.{headerOf, fits}
 use Rattle.password.specs.Passing.{passes}
-use Rattle.session.specs.declared.Jump.{Jump}
-use Rattle.session.specs.declared.Port.{Port}
-use Rattle.session.specs.Items.{Item, eightUnder, dataUnder}
+use Rattle.stages.specs.declared.Jump.{Jump}
+use Rattle.stages.specs.declared.Port.{Port}
+use Rattle.stages.specs.Items.{Item, eightUnder, dataUnder}
 use Rattle.merging.specs.Running.{pickedPort, streamOf}
 
 -- "Serial: take the clean bytes in order."

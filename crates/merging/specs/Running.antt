@@ -4,11 +4,11 @@ use mathlib.Core.List.{List, [], _∷_, _++_}
 use mathlib.Core.Bool.{Bool, true, false, cond, _&&_}
 use mathlib.Core.Option.{Option, none, some}
 use Rattle.session.specs.declared.Answer.{Answer}
-use Rattle.session.specs.declared.Jump.{Jump}
+use Rattle.stages.specs.declared.Jump.{Jump}
 use Rattle.session.specs.declared.Outcome.{Outcome}
-use Rattle.session.specs.declared.Port.{Port}
-use Rattle.session.specs.declared.Session.{Session}
-use Rattle.session.specs.Items.{Item, wellFormed, portOf, opens}
+use Rattle.stages.specs.declared.Port.{Port}
+use Rattle.stages.specs.declared.Session.{Session}
+use Rattle.stages.specs.Items.{Item, wellFormed, portOf, opens}
 use Rattle.session.specs.Rules.{after}
 
 -- a list of calls: the answers in order, and the session and SRAM that the last call leaves

@@ -10,8 +10,10 @@ ghost use Rattle.numbers.specs.Writing.{answerNumbers};
 ghost use Rattle.merging.specs.Running.{ran};
 ghost use Rattle.merging.specs.Listing.{itemOf, itemsOf, kindFits, partsFit, listFits, asListAfter, listRan, ListClaim};
 use session::Answer;
+use session::Due;
+use session::Outcome;
 use session::Reply;
-use session::Session;
+use stages::Session;
 
 // The number of the call, and the session after it.
 pub struct ListReply {
@@ -118,16 +120,6 @@ fn run_items(
     current
 }
 
-// A refused list.
-fn refuse(number: u8, session: Session) -> ListReply
-    ensures { λ r. ⌜ r ≡ record { number = number; session = session } ⌝ }
-{
-    ListReply {
-        number: number,
-        session: session,
-    }
-}
-
 // A list of items.
 pub fn run(
     session: Session,
@@ -143,14 +135,13 @@ pub fn run(
         (asListAfter (r .number) (r .session) (now (sram .exit)) (now (answers .exit)))
         ⌝ }
 {
-    if !sram::is_whole(sram) {
-        return refuse(7, session);
-    }
-    if !session::is_sound(session) {
-        return refuse(8, session);
-    }
-    if !list_fits(kinds, identifiers, counts, bytes.len(), answers.len()) {
-        return refuse(6, session);
+    let formed = list_fits(kinds, identifiers, counts, bytes.len(), answers.len());
+    let due = session::first_due(session, sram, formed);
+    if let Due::Refused(fault) = due {
+        return ListReply {
+            number: numbers::outcome_number(Outcome::Refused(fault)),
+            session: session,
+        };
     }
     let last = run_items(session, sram, kinds, identifiers, counts, bytes, answers);
     ListReply {

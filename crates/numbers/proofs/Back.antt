@@ -10,10 +10,10 @@ use lib.Seq.{ext-getD}
 use borrow.Author.Count.{below-more, below-none}
 use mir.Syntax.{w8}
 use mir.Val.{Fits}
-use Rattle.session.specs.declared.Port.{Port}
-use Rattle.session.specs.declared.Refusal.{Refusal}
-use Rattle.session.specs.declared.Session.{Session}
-use Rattle.session.specs.declared.Stage.{Stage}
+use Rattle.stages.specs.declared.Port.{Port}
+use Rattle.stages.specs.declared.Refusal.{Refusal}
+use Rattle.stages.specs.declared.Session.{Session}
+use Rattle.stages.specs.declared.Stage.{Stage}
 use Rattle.numbers.specs.Writing.{bit, sessionNumbers}
 use Rattle.numbers.specs.Reading.{eightIn, portRead, refusalRead, stageRead, sessionRead, Encoding}
 

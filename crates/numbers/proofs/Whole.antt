@@ -5,8 +5,8 @@ use mathlib.Core.List.{List, [], _∷_, _++_}
 use lib.ListN.{getD}
 use Rattle.octets.specs.Read.{firstEight}
 use Rattle.session.specs.declared.Outcome.{Outcome}
-use Rattle.session.specs.declared.Session.{Session}
-use Rattle.session.specs.declared.Stage.{Stage}
+use Rattle.stages.specs.declared.Session.{Session}
+use Rattle.stages.specs.declared.Stage.{Stage}
 use Rattle.numbers.specs.Writing.{stageNumber, portIn, loadNumbers, sessionNumbers, jumpNumbers}
 
 -- the first two numbers, and the first five

@@ -4,14 +4,14 @@ use mathlib.Core.Path.{_≡_}
 use mathlib.Core.List.{List, [], _∷_}
 use mathlib.Core.Bool.{Bool, cond}
 use lib.Dec.{eqb}
-use lib.ListN.{getD}
+use lib.ListN.{getD, replicate}
 use Rattle.octets.specs.Same.{same}
-use Rattle.session.specs.declared.Jump.{Jump}
-use Rattle.session.specs.declared.Load.{Load}
-use Rattle.session.specs.declared.Port.{Port}
-use Rattle.session.specs.declared.Refusal.{Refusal}
-use Rattle.session.specs.declared.Session.{Session}
-use Rattle.session.specs.declared.Stage.{Stage}
+use Rattle.stages.specs.declared.Jump.{Jump}
+use Rattle.stages.specs.declared.Load.{Load}
+use Rattle.stages.specs.declared.Port.{Port}
+use Rattle.stages.specs.declared.Refusal.{Refusal}
+use Rattle.stages.specs.declared.Session.{Session}
+use Rattle.stages.specs.declared.Stage.{Stage}
 use Rattle.numbers.specs.Writing.{sessionNumbers}
 
 -- the number at a place, and as a byte
@@ -74,6 +74,13 @@ sessionRead numbers =
 -- numbers that are those of the session that they read as
 unfoldable pub encodes : List ℕ → Bool
 encodes numbers = same (sessionNumbers (sessionRead numbers)) numbers
+
+-- numbers of no session are those of none that is sound: one that waits and holds a byte stands in its place
+abbrev pub unsoundSession : Session
+unsoundSession = record { selected = replicate 8 0; stage = Stage.Waiting; held = replicate 8 0; count = 1 }
+
+unfoldable pub sessionIn : List ℕ → Session
+sessionIn numbers = cond (encodes numbers) (sessionRead numbers) unsoundSession
 
 -- what `numbers::session_numbers` promises of the numbers r of a session: they are its numbers, and they read as the session again
 pub record Encoding (session : Session) (r : List ℕ) : Type 0 where

@@ -5,9 +5,9 @@ use mathlib.Core.Bool.{Bool, cond}
 use Rattle.octets.specs.Read.{firstEight}
 use Rattle.session.specs.declared.Answer.{Answer}
 use Rattle.session.specs.declared.Outcome.{Outcome}
-use Rattle.session.specs.declared.Port.{Port}
-use Rattle.session.specs.declared.Session.{Session}
-use Rattle.session.specs.declared.Stage.{Stage}
+use Rattle.stages.specs.declared.Port.{Port}
+use Rattle.stages.specs.declared.Session.{Session}
+use Rattle.stages.specs.declared.Stage.{Stage}
 use Rattle.session.specs.Answers.{numberOf, refusalNumber}
 
 -- a flag is 0 or 1

@@ -1,20 +1,21 @@
 // Sessions and answers as lists of numbers, as they cross the C interface (include/boot_assist.h).
 ghost use mathlib.Core.Path.{_≡_};
+ghost use Prim.Native.Nat.{_≤_};
 ghost use Rattle.octets.specs.Read.{firstEight};
 ghost use Rattle.octets.specs.Same.{same};
 ghost use Rattle.session.specs.Answers.{refusalNumber, faultNumber, numberOf};
 ghost use Rattle.numbers.specs.Writing.{bit, stageNumber, portNumber, portIn, loadNumbers, jumpNumbers, answerNumbers};
-ghost use Rattle.numbers.specs.Reading.{numberAt, byteIn, eightIn, portRead, loadRead, refusalRead, jumpRead, stageRead, sessionRead, encodes, Encoding};
+ghost use Rattle.numbers.specs.Reading.{numberAt, byteIn, eightIn, portRead, loadRead, refusalRead, jumpRead, stageRead, sessionRead, unsoundSession, sessionIn, Encoding};
 use session::Answer;
 use session::Fault;
-use session::Jump;
-use session::Load;
 use session::Outcome;
-use session::Port;
-use session::Refusal;
-use session::Session;
-use session::Stage;
 use sram::Aligned;
+use stages::Jump;
+use stages::Load;
+use stages::Port;
+use stages::Refusal;
+use stages::Session;
+use stages::Stage;
 
 // A flag as 0 or 1.
 pub fn flag(is_set: bool) -> u32
@@ -65,7 +66,7 @@ fn port_in(stage: Stage) -> u32
 }
 
 // The number of a refusal.
-fn refusal_number(refusal: Refusal) -> u32
+fn refusal_number(refusal: Refusal) -> u8
     ensures { λ r. ⌜ r ≡ refusalNumber refusal ⌝ }
 {
     match refusal {
@@ -84,7 +85,7 @@ fn load_numbers(stage: Stage) -> [u32; 5]
         Stage::Password => [0; 5],
         Stage::Header(_) => [0; 5],
         Stage::Data(_, load) => [load.start.0, flag(load.vle), load.next, load.owed, 0],
-        Stage::Stopped(refusal) => [0, 0, 0, 0, refusal_number(refusal)],
+        Stage::Stopped(refusal) => [0, 0, 0, 0, wide(refusal_number(refusal))],
         Stage::Jumped(jump) => [jump.start.0, flag(jump.vle), 0, 0, 0],
     }
 }
@@ -150,7 +151,7 @@ pub fn session_numbers(session: Session) -> [u32; 24]
 }
 
 // The number of a refused call.
-fn fault_number(fault: Fault) -> u32
+fn fault_number(fault: Fault) -> u8
     ensures { λ r. ⌜ r ≡ faultNumber fault ⌝ }
 {
     match fault {
@@ -161,7 +162,7 @@ fn fault_number(fault: Fault) -> u32
 }
 
 // The number of an outcome.
-pub fn outcome_number(outcome: Outcome) -> u32
+pub fn outcome_number(outcome: Outcome) -> u8
     ensures { λ r. ⌜ r ≡ numberOf outcome ⌝ }
 {
     match outcome {
@@ -196,7 +197,7 @@ pub fn answer_numbers(answer: Answer) -> [u32; 13]
     let bytes = eight_numbers(echoed);
     let jump = jump_numbers(outcome);
     [
-        outcome_number(outcome),
+        wide(outcome_number(outcome)),
         echo.identifier,
         wide(echo.length),
         bytes[0],
@@ -229,34 +230,20 @@ fn byte_in(numbers: &[u32], at: usize) -> u8
     (number_at(numbers, at) % 256) as u8
 }
 
-// The password selected, and the bytes held.
-fn selected_in(numbers: &[u32]) -> [u8; 8]
-    ensures { λ r. ⌜ r ≡ eightIn (now (numbers .entry)) 0 ⌝ }
+// Eight bytes from a place on.
+fn eight_in(numbers: &[u32], at: usize) -> [u8; 8]
+    requires { ⌜ at ≤ 11 ⌝ }
+    ensures { λ r. ⌜ r ≡ eightIn (now (numbers .entry)) at ⌝ }
 {
     [
-        byte_in(numbers, 0),
-        byte_in(numbers, 1),
-        byte_in(numbers, 2),
-        byte_in(numbers, 3),
-        byte_in(numbers, 4),
-        byte_in(numbers, 5),
-        byte_in(numbers, 6),
-        byte_in(numbers, 7),
-    ]
-}
-
-fn held_in(numbers: &[u32]) -> [u8; 8]
-    ensures { λ r. ⌜ r ≡ eightIn (now (numbers .entry)) 11 ⌝ }
-{
-    [
-        byte_in(numbers, 11),
-        byte_in(numbers, 12),
-        byte_in(numbers, 13),
-        byte_in(numbers, 14),
-        byte_in(numbers, 15),
-        byte_in(numbers, 16),
-        byte_in(numbers, 17),
-        byte_in(numbers, 18),
+        byte_in(numbers, at),
+        byte_in(numbers, at + 1),
+        byte_in(numbers, at + 2),
+        byte_in(numbers, at + 3),
+        byte_in(numbers, at + 4),
+        byte_in(numbers, at + 5),
+        byte_in(numbers, at + 6),
+        byte_in(numbers, at + 7),
     ]
 }
 
@@ -317,11 +304,11 @@ fn read_stage(numbers: &[u32]) -> Stage
 }
 
 // The session that numbers read as.
-pub fn read_session(numbers: &[u32]) -> Session
+fn decode(numbers: &[u32]) -> Session
     ensures { λ r. ⌜ r ≡ sessionRead (now (numbers .entry)) ⌝ }
 {
-    let selected = selected_in(numbers);
-    let held = held_in(numbers);
+    let selected = eight_in(numbers, 0);
+    let held = eight_in(numbers, 11);
     Session {
         selected: selected,
         stage: read_stage(numbers),
@@ -347,9 +334,25 @@ fn is_same(a: [u32; 24], b: &[u32]) -> bool
     true
 }
 
-// Whether numbers are those of a session.
-pub fn is_session(numbers: &[u32]) -> bool
-    ensures { λ r. ⌜ r ≡ encodes (now (numbers .entry)) ⌝ }
+// A session that is not sound: waiting, with a byte held.
+fn unsound() -> Session
+    ensures { λ r. ⌜ r ≡ unsoundSession ⌝ }
 {
-    is_same(session_numbers(read_session(numbers)), numbers)
+    Session {
+        selected: [0; 8],
+        stage: Stage::Waiting,
+        held: [0; 8],
+        count: 1,
+    }
+}
+
+// The session of numbers, or one that is not sound where no session has them.
+pub fn read_session(numbers: &[u32]) -> Session
+    ensures { λ r. ⌜ r ≡ sessionIn (now (numbers .entry)) ⌝ }
+{
+    let read = decode(numbers);
+    if is_same(session_numbers(read), numbers) {
+        return read;
+    }
+    unsound()
 }

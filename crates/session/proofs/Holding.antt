@@ -8,7 +8,7 @@ use lib.Seq.{length-take-le}
 use borrow.Rule.Slice.PartMut.{midOf, putMid}
 use Rattle.octets.specs.Write.{over, filled}
 use Rattle.octets.proofs.Lending.{put-back}
-use Rattle.session.specs.declared.Session.{Session}
+use Rattle.stages.specs.declared.Session.{Session}
 use Rattle.session.specs.Rules.{received}
 
 module _ (session : Session) (bytes : List ℕ) (eight : length (session .held) ≡ 8) (room : session .count + length bytes ≤ 8) where

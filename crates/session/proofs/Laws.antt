@@ -3,97 +3,79 @@ use Prim.Native.Nat.{ℕ, _+_, _-_, _≤_}
 use native.Mathlib.Omega.{arith}
 use mathlib.Core.Path.{_≡_, refl}
 use mathlib.Core.List.{List, [], _∷_}
-use mathlib.Core.Bool.{Bool, true, false, cond, _&&_, and-eq-true-iff, false≢true}
+use mathlib.Core.Bool.{Bool, true, false, cond, and-eq-true-iff, false≢true}
 use borrow.Author.Tests.{eqb-true, eqb-false, leb-true, le-leb, eq-eqb}
 use lib.Dec.{leb, eqb}
 use lib.ListN.{length, take, length-append, length-take}
 use native.Mathlib.Nat.{min-le-left}
 use Rattle.octets.specs.Read.{wordAt}
 use Rattle.header.specs.declared.Header.{Header}
-use Rattle.header.specs.Reading.{headerOf, announcesNone, within}
+use Rattle.header.specs.Reading.{headerOf, announcesNone, within, verdictOf}
 use Rattle.password.specs.Passing.{passes}
-use Rattle.sram.specs.Region.{size, rightSize, lies, aligned, stored}
+use Rattle.sram.specs.Region.{size, rightSize, stored}
 use Rattle.sram.proofs.Laws.{lies-part, lies-rest, lies-aligned, stored-length}
+use Rattle.stages.specs.declared.Load.{Load}
+use Rattle.stages.specs.declared.Port.{Port}
+use Rattle.stages.specs.declared.Session.{Session}
+use Rattle.stages.specs.declared.Stage.{Stage}
+use Rattle.stages.specs.Items.{Item, wellFormed, portOf, bytesOf}
+use Rattle.stages.specs.Sound.{loadSound, soundIn, sound}
+use Rattle.stages.specs.Taking.{takes}
+use Rattle.stages.proofs.Laws.{taken-formed, data-fits, load-fits, eight-long, taken-inside}
+use Rattle.session.specs.declared.Due.{Due}
 use Rattle.session.specs.declared.Fault.{Fault}
-use Rattle.session.specs.declared.Load.{Load}
 use Rattle.session.specs.declared.Outcome.{Outcome}
-use Rattle.session.specs.declared.Port.{Port}
-use Rattle.session.specs.declared.Session.{Session}
-use Rattle.session.specs.declared.Stage.{Stage}
-use Rattle.session.specs.Answers.{notTaken, unchanged}
-use Rattle.session.specs.Items.{Item, wellFormed, portOf, bytesOf, eightUnder, dataUnder}
-use Rattle.session.specs.Sound.{loadSound, soundIn, sound}
-use Rattle.session.specs.Rules.{takes, moved, keeps, takenBy, ruled, after, received, passwordMoved, headerMoved, checked, judged, loaded, loadFrom}
+use Rattle.session.specs.Answers.{faultNumber, firstDue, notTaken, unchanged}
+use Rattle.session.specs.Rules.{moved, keeps, takenBy, ruled, afterDue, after, received, passwordMoved, headerMoved, checked, judged, loaded, loadFrom}
 
 -- neither 7 nor 8 is due
 pub record Accepted (session : Session) (sram : List ℕ) : Type 0 where
   pub right : rightSize sram ≡ true
   pub fine : sound session ≡ true
 
-pub eight-formed : (wanted identifier : ℕ) (frame : List ℕ) → wanted ≤ 2047 → eightUnder wanted identifier frame ≡ true
-    → wellFormed (Item.Frame identifier frame) ≡ true
-eight-formed wanted identifier frame small e =
-    let h = and-eq-true-iff (eqb identifier wanted) (eqb (length frame) 8) .0 e in
-    let i : identifier ≡ wanted = eqb-true identifier wanted (h .0) in
-    let n : length frame ≡ 8 = eqb-true (length frame) 8 (h .1) in
-    rw (le-leb identifier 2047 (omega arith), le-leb (length frame) 8 (omega arith))
-
--- what a data frame's test says
-pub record Fits (owed identifier : ℕ) (frame : List ℕ) : Type 0 where
-  pub under : identifier ≡ 0x013
-  pub some-bytes : 1 ≤ length frame
-  pub at-most : length frame ≤ 8
-  pub not-above : length frame ≤ owed
-
-pub data-fits : (owed identifier : ℕ) (frame : List ℕ) → dataUnder owed identifier frame ≡ true → Fits owed identifier frame
-data-fits owed identifier frame e =
-    let n = length frame in
-    let h = and-eq-true-iff (eqb identifier 0x013 && leb 1 n && leb n 8) (leb n owed) .0 e in
-    let i = and-eq-true-iff (eqb identifier 0x013 && leb 1 n) (leb n 8) .0 (h .0) in
-    let j = and-eq-true-iff (eqb identifier 0x013) (leb 1 n) .0 (i .0) in
-    record {
-      under = eqb-true identifier 0x013 (j .0);
-      some-bytes = leb-true 1 n (j .1);
-      at-most = leb-true n 8 (i .1);
-      not-above = leb-true n owed (h .1);
-    }
-
-pub data-formed : (owed identifier : ℕ) (frame : List ℕ) → dataUnder owed identifier frame ≡ true
-    → wellFormed (Item.Frame identifier frame) ≡ true
-data-formed owed identifier frame e =
-    let f = data-fits owed identifier frame e in
-    rw (le-leb identifier 2047 (omega arith), le-leb (length frame) 8 (omega arith))
-
--- an item that is taken is not refused for its form
-pub taken-formed : (stage : Stage) (item : Item) → takes stage item ≡ true → wellFormed item ≡ true
-unfolding takes
-taken-formed stage (Item.Byte byte faulty) e = refl
-taken-formed Stage.Waiting (Item.Frame identifier frame) e = eight-formed 0x011 identifier frame (omega arith) e
-taken-formed Stage.Password (Item.Frame identifier frame) e = absurd (false≢true e)
-taken-formed (Stage.Header Port.Can) (Item.Frame identifier frame) e = eight-formed 0x012 identifier frame (omega arith) e
-taken-formed (Stage.Header Port.Serial) (Item.Frame identifier frame) e = absurd (false≢true e)
-taken-formed (Stage.Data Port.Can load) (Item.Frame identifier frame) e = data-formed (load .owed) identifier frame e
-taken-formed (Stage.Data Port.Serial load) (Item.Frame identifier frame) e = absurd (false≢true e)
-taken-formed (Stage.Stopped refusal) (Item.Frame identifier frame) e = absurd (false≢true e)
-taken-formed (Stage.Jumped jump) (Item.Frame identifier frame) e = absurd (false≢true e)
-
 module _ (session : Session) (sram : List ℕ) (item : Item) (ok : Accepted session sram) where
   pub after-taken : takes (session .stage) item ≡ true
       → after session sram item ≡ takenBy session sram (portOf item) (bytesOf item)
-  unfolding after ruled
+  unfolding after ruled firstDue
   after-taken e = rw (ok .right, ok .fine, taken-formed (session .stage) item e, e)
 
   pub after-passed : takes (session .stage) item ≡ false
       → after session sram item ≡ unchanged (notTaken item) session sram
-  unfolding after ruled
-  after-passed e = rw (ok .right, ok .fine, e) (either (wellFormed item))
+  unfolding after ruled firstDue
+  after-passed e = rw (ok .right, ok .fine) (either (wellFormed item))
     where
       either
           : (formed : Bool)
-          → cond formed (unchanged Outcome.Ignored session sram) (unchanged (Outcome.Refused Fault.Form) session sram)
+          → afterDue (cond formed Due.Nothing (Due.Refused Fault.Form)) session sram item
           ≡ unchanged (cond formed Outcome.Ignored (Outcome.Refused Fault.Form)) session sram
-      either true = refl
+      either true = rw e
       either false = refl
+
+-- nothing due: neither 7 nor 8, nor 6
+pub nothing-due : (session : Session) (sram : List ℕ) (formed : Bool) → firstDue session sram formed ≡ Due.Nothing
+    → Accepted session sram × (formed ≡ true)
+unfolding firstDue
+nothing-due session sram formed e =
+    let h = all-three (rightSize sram) (sound session) formed e in
+    (record { right = h .0; fine = h .1 }, h .2)
+  where
+    refused : (fault : Fault) → Due.Refused fault ≡ Due.Nothing → ⊥
+    refused fault e = let z : _≡_ {A = ℕ} 0 1 = cc in omega arith
+
+    all-three
+        : (a b c : Bool)
+        → cond a (cond b (cond c Due.Nothing (Due.Refused Fault.Form)) (Due.Refused Fault.Unsound)) (Due.Refused Fault.Size) ≡ Due.Nothing
+        → (a ≡ true) × (b ≡ true) × (c ≡ true)
+    all-three false b c e = absurd (refused Fault.Size e)
+    all-three true false c e = absurd (refused Fault.Unsound e)
+    all-three true true false e = absurd (refused Fault.Form e)
+    all-three true true true e = (refl, refl, refl)
+
+-- no refused call has number 0
+pub fault-some : (fault : Fault) → faultNumber fault ≡ 0 → ⊥
+fault-some Fault.Form e = omega arith
+fault-some Fault.Size e = omega arith
+fault-some Fault.Unsound e = omega arith
 
 -- The counts still fit the stage after an item.
 
@@ -113,11 +95,11 @@ entered-sound : (port : Port) → soundIn (Stage.Header port) 0 ≡ true
 entered-sound Port.Can = refl
 entered-sound Port.Serial = refl
 
-checked-sound : (session : Session) (port : Port) (bytes : List ℕ) (b : Bool) → passes bytes (session .selected) ≡ b
-    → sound (checked session port bytes .session) ≡ true
+checked-sound : (selected : List ℕ) (port : Port) (bytes : List ℕ) (b : Bool) → passes bytes selected ≡ b
+    → sound (checked selected port bytes .session) ≡ true
 unfolding checked sound
-checked-sound session port bytes true e = rw e (entered-sound port)
-checked-sound session port bytes false e = rw e
+checked-sound selected port bytes true e = rw e (entered-sound port)
+checked-sound selected port bytes false e = rw e
 
 begun-sound : (bytes : List ℕ) → announcesNone (headerOf bytes) ≡ false → within (headerOf bytes) ≡ true
     → loadSound (loadFrom (headerOf bytes)) ≡ true
@@ -131,17 +113,17 @@ begun-sound bytes some-bytes inside =
       le-leb (header .start .0) (header .start .0) (omega arith),
     )
 
-judged-sound : (session : Session) (port : Port) (bytes : List ℕ) (a b : Bool) → announcesNone (headerOf bytes) ≡ a
-    → within (headerOf bytes) ≡ b → sound (judged session port (headerOf bytes) .session) ≡ true
-unfolding judged sound
-judged-sound session port bytes true b e f = rw e
-judged-sound session port bytes false true e f = rw (e, f) (begun-sound bytes e f)
-judged-sound session port bytes false false e f = rw (e, f)
+judged-sound : (selected : List ℕ) (port : Port) (bytes : List ℕ) (a b : Bool) → announcesNone (headerOf bytes) ≡ a
+    → within (headerOf bytes) ≡ b → sound (judged selected port (verdictOf bytes) .session) ≡ true
+unfolding verdictOf sound
+judged-sound selected port bytes true b e f = rw e
+judged-sound selected port bytes false true e f = rw (e, f) (begun-sound bytes e f)
+judged-sound selected port bytes false false e f = rw (e, f)
 
 password-sound : (session : Session) (port : Port) (bytes : List ℕ) (b : Bool) → eqb (length bytes) 8 ≡ b → 1 ≤ length bytes
     → length bytes ≤ 8 → sound (passwordMoved session port bytes .session) ≡ true
 unfolding passwordMoved sound
-password-sound session port bytes true e h k = rw e (checked-sound session port bytes (passes bytes (session .selected)) refl)
+password-sound session port bytes true e h k = rw e (checked-sound (session .selected) port bytes (passes bytes (session .selected)) refl)
 password-sound session port bytes false e h k =
     let seven : length bytes ≤ 7 = omega (arith, eqb-false (length bytes) 8 e) in
     rw (e, le-leb 1 (length bytes) h, le-leb (length bytes) 7 seven)
@@ -150,40 +132,17 @@ header-sound : (session : Session) (port : Port) (bytes : List ℕ) (b : Bool) �
     → (port ≡ Port.Can → length bytes ≡ 8) → sound (headerMoved session port bytes .session) ≡ true
 unfolding headerMoved sound
 header-sound session port bytes true e k can =
-    rw e (judged-sound session port bytes (announcesNone (headerOf bytes)) (within (headerOf bytes)) refl refl)
+    rw e (judged-sound (session .selected) port bytes (announcesNone (headerOf bytes)) (within (headerOf bytes)) refl refl)
 header-sound session Port.Can bytes false e k can = absurd (eqb-false (length bytes) 8 e (can refl))
 header-sound session Port.Serial bytes false e k can =
     let seven : length bytes ≤ 7 = omega (arith, eqb-false (length bytes) 8 e) in
     rw (e, le-leb (length bytes) 7 seven)
 
--- what a sound load says
-pub record LoadFits (load : Load) : Type 0 where
-  pub some-owed : 1 ≤ load .owed
-  pub inside : lies (load .next) (load .owed) ≡ true
-  pub start-aligned : aligned (load .start .0) ≡ true
-  pub not-beyond : load .start .0 ≤ load .next
-
-pub load-fits : (load : Load) → loadSound load ≡ true → LoadFits load
-load-fits load e =
-    let a = leb 1 (load .owed) in
-    let b = lies (load .next) (load .owed) in
-    let c = aligned (load .start .0) in
-    let d = leb (load .start .0) (load .next) in
-    let h = and-eq-true-iff (a && b && c) d .0 e in
-    let i = and-eq-true-iff (a && b) c .0 (h .0) in
-    let j = and-eq-true-iff a b .0 (i .0) in
-    record {
-      some-owed = leb-true 1 (load .owed) (j .0);
-      inside = j .1;
-      start-aligned = i .1;
-      not-beyond = leb-true (load .start .0) (load .next) (h .1);
-    }
-
-loaded-sound : (session : Session) (port : Port) (load : Load) (count : ℕ) (b : Bool) → eqb count (load .owed) ≡ b
-    → loadSound load ≡ true → count ≤ load .owed → sound (loaded session port load count .session) ≡ true
+loaded-sound : (selected : List ℕ) (port : Port) (load : Load) (count : ℕ) (b : Bool) → eqb count (load .owed) ≡ b
+    → loadSound load ≡ true → count ≤ load .owed → sound (loaded selected port load count .session) ≡ true
 unfolding loaded sound
-loaded-sound session port load count true e f h = rw e
-loaded-sound session port load count false e f h =
+loaded-sound selected port load count true e f h = rw e
+loaded-sound selected port load count false e f h =
     let l = load-fits load f in
     let more : 1 ≤ load .owed - count = omega (arith, eqb-false count (load .owed) e) in
     rw (
@@ -193,11 +152,6 @@ loaded-sound session port load count false e f h =
       l .start-aligned,
       le-leb (load .start .0) (load .next + count) (omega arith),
     )
-
--- the bytes of an item that opens: 8 of CAN, 1 of serial
-pub eight-long : (wanted identifier : ℕ) (frame : List ℕ) → eightUnder wanted identifier frame ≡ true → length frame ≡ 8
-eight-long wanted identifier frame e =
-    eqb-true (length frame) 8 (and-eq-true-iff (eqb identifier wanted) (eqb (length frame) 8) .0 e .1)
 
 from-nothing : (session : Session) (port : Port) (bytes : List ℕ) → eqb (session .count) 0 ≡ true → 1 ≤ length bytes
     → length bytes ≤ 8 → sound (passwordMoved session port (received session bytes) .session) ≡ true
@@ -235,25 +189,16 @@ moved-sound (Stage.Header Port.Serial) session (Item.Byte byte faulty) s e =
     not-can : Port.Serial ≡ Port.Can → ⊥
     not-can h = let z : _≡_ {A = ℕ} 0 1 = cc in omega arith
 moved-sound (Stage.Data Port.Can load) session (Item.Frame identifier frame) s e =
-    loaded-sound session Port.Can load (length frame) (eqb (length frame) (load .owed)) refl
+    loaded-sound (session .selected) Port.Can load (length frame) (eqb (length frame) (load .owed)) refl
     (and-eq-true-iff (eqb (session .count) 0) (loadSound load) .0 s .1)
     (data-fits (load .owed) identifier frame e .not-above)
 moved-sound (Stage.Data Port.Can load) session (Item.Byte byte faulty) s e = absurd (false≢true e)
 moved-sound (Stage.Data Port.Serial load) session (Item.Frame identifier frame) s e = absurd (false≢true e)
 moved-sound (Stage.Data Port.Serial load) session (Item.Byte byte faulty) s e =
     let l = and-eq-true-iff (eqb (session .count) 0) (loadSound load) .0 s .1 in
-    loaded-sound session Port.Serial load 1 (eqb 1 (load .owed)) refl l (load-fits load l .some-owed)
+    loaded-sound (session .selected) Port.Serial load 1 (eqb 1 (load .owed)) refl l (load-fits load l .some-owed)
 moved-sound (Stage.Stopped refusal) session item s e = absurd (false≢true e)
 moved-sound (Stage.Jumped jump) session item s e = absurd (false≢true e)
-
--- bytes taken in the data stage lie in SRAM from the next address
-pub taken-inside : (port : Port) (load : Load) (item : Item) → loadSound load ≡ true → takes (Stage.Data port load) item ≡ true
-    → length (bytesOf item) ≤ load .owed
-unfolding takes
-taken-inside Port.Can load (Item.Frame identifier frame) s e = data-fits (load .owed) identifier frame e .not-above
-taken-inside Port.Can load (Item.Byte byte faulty) s e = absurd (false≢true e)
-taken-inside Port.Serial load (Item.Frame identifier frame) s e = absurd (false≢true e)
-taken-inside Port.Serial load (Item.Byte byte faulty) s e = load-fits load s .some-owed
 
 keeps-size : (stage : Stage) (count : ℕ) (sram : List ℕ) (item : Item) → soundIn stage count ≡ true → rightSize sram ≡ true
     → takes stage item ≡ true → rightSize (keeps stage sram (bytesOf item)) ≡ true

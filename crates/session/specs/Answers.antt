@@ -1,17 +1,21 @@
 -- What the head says back (01, "What the head says back").
 use Prim.Native.Nat.{ℕ}
 use mathlib.Core.List.{List}
-use mathlib.Core.Bool.{cond}
+use mathlib.Core.Bool.{Bool, cond}
 use lib.ListN.{length, replicate}
 use Rattle.octets.specs.Write.{over}
+use Rattle.sram.specs.Region.{rightSize}
 use Rattle.session.specs.declared.Answer.{Answer}
+use Rattle.session.specs.declared.Due.{Due}
 use Rattle.session.specs.declared.Echo.{Echo}
 use Rattle.session.specs.declared.Fault.{Fault}
 use Rattle.session.specs.declared.Outcome.{Outcome}
-use Rattle.session.specs.declared.Refusal.{Refusal}
+use Rattle.stages.specs.declared.Refusal.{Refusal}
 use Rattle.session.specs.declared.Reply.{Reply}
-use Rattle.session.specs.declared.Session.{Session}
-use Rattle.session.specs.Items.{Item, wellFormed}
+use Rattle.stages.specs.declared.Session.{Session}
+use Rattle.stages.specs.declared.Port.{Port}
+use Rattle.stages.specs.Items.{Item, wellFormed}
+use Rattle.stages.specs.Sound.{sound}
 
 -- "8th password byte in, check not passed"; "header complete, length 0"; "header complete, length not 0, not wholly in SRAM"
 abbrev pub refusalNumber : Refusal → ℕ
@@ -33,9 +37,24 @@ numberOf (Outcome.Stops refusal) = refusalNumber refusal
 numberOf (Outcome.Jumps jump) = 5
 numberOf (Outcome.Refused fault) = faultNumber fault
 
--- an echo of bytes, under an identifier for CAN
-abbrev pub echoOf : ℕ → List ℕ → Echo
-echoOf identifier bytes =
+-- what is due before the session's rules, with `formed` for what is handed in: 7, then 8, then 6
+unfoldable pub firstDue : Session → List ℕ → Bool → Due
+firstDue session sram formed =
+    cond (rightSize sram)
+    (cond (sound session)
+    (cond formed
+    Due.Nothing
+    (Due.Refused Fault.Form))
+    (Due.Refused Fault.Unsound))
+    (Due.Refused Fault.Size)
+
+-- an echo of bytes under an identifier, which only CAN has
+abbrev pub underPort : Port → ℕ → ℕ
+underPort Port.Can identifier = identifier
+underPort Port.Serial identifier = 0
+
+abbrev pub echoUnder : ℕ → List ℕ → Echo
+echoUnder identifier bytes =
     record { identifier = identifier; length = length bytes; bytes = over bytes (replicate 8 0) }
 
 -- "A missing echo has length 0."

@@ -2,9 +2,9 @@
 use Prim.Native.Nat.{ℕ, _+_, _≤_}
 use mathlib.Core.Path.{_≡_}
 use mathlib.Core.Bool.{true}
-use Rattle.session.specs.declared.Load.{Load}
-use Rattle.session.specs.declared.Stage.{Stage}
-use Rattle.session.specs.Sound.{loadSound}
+use Rattle.stages.specs.declared.Load.{Load}
+use Rattle.stages.specs.declared.Stage.{Stage}
+use Rattle.stages.specs.Sound.{loadSound}
 
 -- of a load
 abbrev pub LoadRoom : Load → ℕ → Type 0

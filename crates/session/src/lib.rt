@@ -6,63 +6,17 @@ ghost use mathlib.Core.Bool.{true};
 ghost use lib.ListN.{length};
 ghost use Rattle.octets.specs.Write.{over};
 ghost use Rattle.sram.specs.Region.{rightSize};
-ghost use Rattle.session.specs.Items.{Item, eightUnder, dataUnder};
-ghost use Rattle.session.specs.Answers.{echoOf, asAfter, left};
-ghost use Rattle.session.specs.Sound.{loadSound, sound};
-ghost use Rattle.session.specs.Rules.{takes, received, enters, checked, judged, loaded, passwordMoved, headerMoved, moved, keeps, echoIdentifier, takenBy, after};
-ghost use Rattle.session.specs.Fresh.{freshSession, noSession, freshFrom, headerIn};
+ghost use Rattle.stages.specs.Items.{Item};
+ghost use Rattle.session.specs.Answers.{firstDue, underPort, echoUnder, noEcho, asAfter, left};
+ghost use Rattle.session.specs.Rules.{received, enters, checked, judged, loaded, passwordMoved, headerMoved, moved, keeps, echoes, takenBy, after};
 ghost use Rattle.session.specs.Room.{LoadRoom, Room};
-use boot::Answer as Booted;
-use boot::Choice;
-use boot::Mode;
-use header::Header;
-use sram::Aligned;
-
-// The two ports.
-pub enum Port {
-    Can,
-    Serial,
-}
-
-// A load that has begun: where it starts, whether it is VLE code, the next address and how many bytes are still owed.
-pub struct Load {
-    pub start: Aligned,
-    pub vle: bool,
-    pub next: u32,
-    pub owed: u32,
-}
-
-// Where the head jumps, and whether to VLE code.
-pub struct Jump {
-    pub start: Aligned,
-    pub vle: bool,
-}
-
-// What stopped a session: a password that did not pass, a length of 0, or a load not wholly in SRAM.
-pub enum Refusal {
-    Password,
-    Length,
-    Range,
-}
-
-// Where a session stands.
-pub enum Stage {
-    Waiting,
-    Password,
-    Header(Port),
-    Data(Port, Load),
-    Stopped(Refusal),
-    Jumped(Jump),
-}
-
-// A session: the password selected by the boot choice, its stage, and the password or header bytes held so far, which are the first
-// `count` of `held`.
-pub struct Session {
-    pub selected: [u8; 8],
-    pub stage: Stage,
-    pub held: [u8; 8],
-    pub count: u8,
-}
+use header::Verdict;
+use stages::Jump;
+use stages::Load;
+use stages::Port;
+use stages::Refusal;
+use stages::Session;
+use stages::Stage;
 
 // The echo: the first `length` of `bytes`, for CAN under an identifier, which is 0 for serial and where nothing is echoed.
 pub struct Echo {
@@ -76,6 +30,12 @@ pub enum Fault {
     Form,
     Size,
     Unsound,
+}
+
+// What is due before the session's rules.
+pub enum Due {
+    Nothing,
+    Refused(Fault),
 }
 
 // What a call says of its item (`numberOf` of specs/ gives the number).
@@ -105,103 +65,12 @@ pub struct Moved {
     pub session: Session,
 }
 
-// A session from a boot choice, and whether that choice is serial.
-pub struct Start {
-    pub serial: bool,
-    pub session: Session,
-}
-
 const NOTHING: [u8; 8] = [0; 8];
 
-// Whether a load's counts and addresses fit.
-fn is_load_sound(load: Load) -> bool
-    ensures { λ r. ⌜ r ≡ loadSound load ⌝ }
-{
-    let start = load.start;
-    (1 <= load.owed)
-        & sram::is_within(load.next, load.owed)
-        & sram::is_aligned(start)
-        & (start.0 <= load.next)
-}
-
-// Whether a session's counts fit its stage.
-pub fn is_sound(session: Session) -> bool
-    ensures { λ r. ⌜ r ≡ sound session ⌝ }
-{
-    let stage = session.stage;
-    let count = session.count;
-    match stage {
-        Stage::Waiting => count == 0,
-        Stage::Password => (1 <= count) & (count <= 7),
-        Stage::Header(port) => match port {
-            Port::Can => count == 0,
-            Port::Serial => count <= 7,
-        },
-        Stage::Data(_, load) => (count == 0) & is_load_sound(load),
-        Stage::Stopped(_) => count == 0,
-        Stage::Jumped(_) => count == 0,
-    }
-}
-
-// Whether a frame has the identifier wanted and 8 bytes.
-fn is_eight_under(wanted: u32, identifier: u32, frame: &[u8]) -> bool
-    ensures { λ r. ⌜ r ≡ eightUnder wanted identifier (now (frame .entry)) ⌝ }
-{
-    (identifier == wanted) & (frame.len() == 8)
-}
-
-// Whether a frame has data that fits what is owed.
-fn is_data_under(owed: u32, identifier: u32, frame: &[u8]) -> bool
-    ensures { λ r. ⌜ r ≡ dataUnder owed identifier (now (frame .entry)) ⌝ }
-{
-    (identifier == 0x013) & (1 <= frame.len()) & (frame.len() <= 8) & (frame.len() <= owed as usize)
-}
-
-// Whether a stage takes a frame.
-fn takes_frame(stage: Stage, identifier: u32, frame: &[u8]) -> bool
-    ensures { λ r. ⌜ r ≡ takes stage (Item.Frame identifier (now (frame .entry))) ⌝ }
-{
-    match stage {
-        Stage::Waiting => is_eight_under(0x011, identifier, frame),
-        Stage::Password => false,
-        Stage::Header(port) => match port {
-            Port::Can => is_eight_under(0x012, identifier, frame),
-            Port::Serial => false,
-        },
-        Stage::Data(port, load) => match port {
-            Port::Can => is_data_under(load.owed, identifier, frame),
-            Port::Serial => false,
-        },
-        Stage::Stopped(_) => false,
-        Stage::Jumped(_) => false,
-    }
-}
-
-// Whether a stage takes a serial byte.
-fn takes_byte(stage: Stage, byte: u8, faulty: bool) -> bool
-    ensures { λ r. ⌜ r ≡ takes stage (Item.Byte byte faulty) ⌝ }
-{
-    match stage {
-        Stage::Waiting => !faulty,
-        Stage::Password => !faulty,
-        Stage::Header(port) => match port {
-            Port::Can => false,
-            Port::Serial => !faulty,
-        },
-        Stage::Data(port, _) => match port {
-            Port::Can => false,
-            Port::Serial => !faulty,
-        },
-        Stage::Stopped(_) => false,
-        Stage::Jumped(_) => false,
-    }
-}
-
 // A stage that holds no password or header bytes.
-fn enter(session: Session, stage: Stage, outcome: Outcome) -> Moved
-    ensures { λ r. ⌜ r ≡ enters session stage outcome ⌝ }
+fn enter(selected: [u8; 8], stage: Stage, outcome: Outcome) -> Moved
+    ensures { λ r. ⌜ r ≡ enters selected stage outcome ⌝ }
 {
-    let selected = session.selected;
     let next = Session {
         selected: selected,
         stage: stage,
@@ -215,68 +84,68 @@ fn enter(session: Session, stage: Stage, outcome: Outcome) -> Moved
 }
 
 // The 8 password bytes.
-fn check_password(session: Session, port: Port, bytes: [u8; 8]) -> Moved
-    ensures { λ r. ⌜ r ≡ checked session port bytes ⌝ }
+fn check_password(selected: [u8; 8], port: Port, bytes: [u8; 8]) -> Moved
+    ensures { λ r. ⌜ r ≡ checked selected port bytes ⌝ }
 {
-    let selected = session.selected;
     if password::check(bytes, selected) {
-        return enter(session, Stage::Header(port), Outcome::Taken);
+        return enter(selected, Stage::Header(port), Outcome::Taken);
     }
     enter(
-        session,
+        selected,
         Stage::Stopped(Refusal::Password),
         Outcome::Stops(Refusal::Password),
     )
 }
 
 // The 8 header bytes.
-fn judge_header(session: Session, port: Port, header: Header) -> Moved
-    ensures { λ r. ⌜ r ≡ judged session port header ⌝ }
+fn judge_header(selected: [u8; 8], port: Port, verdict: Verdict) -> Moved
+    ensures { λ r. ⌜ r ≡ judged selected port verdict ⌝ }
 {
-    if header.length == 0 {
-        return enter(
-            session,
+    match verdict {
+        Verdict::NoBytes => enter(
+            selected,
             Stage::Stopped(Refusal::Length),
             Outcome::Stops(Refusal::Length),
-        );
+        ),
+        Verdict::Outside => enter(
+            selected,
+            Stage::Stopped(Refusal::Range),
+            Outcome::Stops(Refusal::Range),
+        ),
+        Verdict::Fits(header) => {
+            let start = header.start;
+            let load = Load {
+                start: start,
+                vle: header.vle,
+                next: start.0,
+                owed: header.length,
+            };
+            enter(selected, Stage::Data(port, load), Outcome::Taken)
+        }
     }
-    let start = header.start;
-    if sram::is_within(start.0, header.length) {
-        let load = Load {
-            start: start,
-            vle: header.vle,
-            next: start.0,
-            owed: header.length,
-        };
-        return enter(session, Stage::Data(port, load), Outcome::Taken);
-    }
-    enter(
-        session,
-        Stage::Stopped(Refusal::Range),
-        Outcome::Stops(Refusal::Range),
-    )
 }
 
 // So many bytes of a load.
-fn advance(session: Session, port: Port, load: Load, count: u32) -> Moved
+fn advance(selected: [u8; 8], port: Port, load: Load, count: u32) -> Moved
     requires { ⌜ LoadRoom load count ⌝ }
-    ensures { λ r. ⌜ r ≡ loaded session port load count ⌝ }
+    ensures { λ r. ⌜ r ≡ loaded selected port load count ⌝ }
 {
     let start = load.start;
-    if count == load.owed {
+    let owed = load.owed - count;
+    if owed < 1 {
         let jump = Jump {
             start: start,
             vle: load.vle,
         };
-        return enter(session, Stage::Jumped(jump), Outcome::Jumps(jump));
+        return enter(selected, Stage::Jumped(jump), Outcome::Jumps(jump));
     }
     let rest = Load {
         start: start,
         vle: load.vle,
         next: load.next + count,
-        owed: load.owed - count,
+        owed: owed,
     };
-    enter(session, Stage::Data(port, rest), Outcome::Taken)
+    enter(selected, Stage::Data(port, rest), Outcome::Taken)
 }
 
 // The bytes held with more behind them.
@@ -315,7 +184,8 @@ fn move_password(session: Session, port: Port, bytes: &[u8]) -> Moved
     let held = gather(session, bytes);
     let count = session.count as usize + bytes.len();
     if count == 8 {
-        return check_password(session, port, held);
+        let selected = session.selected;
+        return check_password(selected, port, held);
     }
     hold(session, Stage::Password, held, count as u8)
 }
@@ -328,7 +198,8 @@ fn move_header(session: Session, port: Port, bytes: &[u8]) -> Moved
     let held = gather(session, bytes);
     let count = session.count as usize + bytes.len();
     if count == 8 {
-        return judge_header(session, port, header::read(held));
+        let selected = session.selected;
+        return judge_header(selected, port, header::judge(held));
     }
     hold(session, Stage::Header(port), held, count as u8)
 }
@@ -339,21 +210,23 @@ fn move_on(session: Session, port: Port, bytes: &[u8]) -> Moved
     ensures { λ r. ⌜ r ≡ moved (session .stage) session port (now (bytes .entry)) ⌝ }
 {
     let stage = session.stage;
+    let selected = session.selected;
     match stage {
         Stage::Waiting => move_password(session, port, bytes),
         Stage::Password => move_password(session, Port::Serial, bytes),
         Stage::Header(ours) => move_header(session, ours, bytes),
-        Stage::Data(ours, load) => advance(session, ours, load, bytes.len() as u32),
-        Stage::Stopped(_) => enter(session, stage, Outcome::Ignored),
-        Stage::Jumped(_) => enter(session, stage, Outcome::Ignored),
+        Stage::Data(ours, load) => advance(selected, ours, load, bytes.len() as u32),
+        Stage::Stopped(_) => enter(selected, stage, Outcome::Ignored),
+        Stage::Jumped(_) => enter(selected, stage, Outcome::Ignored),
     }
 }
 
 // Stores the bytes of a load.
-fn keep(sram: &mut [u8], stage: Stage, held: u8, bytes: &[u8])
-    requires { ⌜ (rightSize (now sram) ≡ true) × Room stage held (length (now bytes)) ⌝ }
-    ensures { λ _. ⌜ now (sram .exit) ≡ keeps stage (now (sram .entry)) (now (bytes .entry)) ⌝ }
+fn keep(sram: &mut [u8], session: Session, bytes: &[u8])
+    requires { ⌜ (rightSize (now sram) ≡ true) × Room (session .stage) (session .count) (length (now bytes)) ⌝ }
+    ensures { λ _. ⌜ now (sram .exit) ≡ keeps (session .stage) (now (sram .entry)) (now (bytes .entry)) ⌝ }
 {
+    let stage = session.stage;
     match stage {
         Stage::Waiting => {}
         Stage::Password => {}
@@ -364,27 +237,20 @@ fn keep(sram: &mut [u8], stage: Stage, held: u8, bytes: &[u8])
     }
 }
 
-// The identifier of an echo.
-fn echo_identifier(port: Port, stage: Stage) -> u32
-    ensures { λ r. ⌜ r ≡ echoIdentifier port stage ⌝ }
+// An identifier, which only CAN has.
+fn under_port(port: Port, identifier: u32) -> u32
+    ensures { λ r. ⌜ r ≡ underPort port identifier ⌝ }
 {
     match port {
+        Port::Can => identifier,
         Port::Serial => 0,
-        Port::Can => match stage {
-            Stage::Waiting => 0x001,
-            Stage::Password => 0x001,
-            Stage::Header(_) => 0x002,
-            Stage::Data(_, _) => 0x003,
-            Stage::Stopped(_) => 0,
-            Stage::Jumped(_) => 0,
-        },
     }
 }
 
 // The echo of bytes under an identifier.
-fn echo_of(identifier: u32, bytes: &[u8]) -> Echo
+fn echo_under(identifier: u32, bytes: &[u8]) -> Echo
     requires { ⌜ length (now bytes) ≤ 8 ⌝ }
-    ensures { λ r. ⌜ r ≡ echoOf identifier (now (bytes .entry)) ⌝ }
+    ensures { λ r. ⌜ r ≡ echoUnder identifier (now (bytes .entry)) ⌝ }
 {
     let mut all = NOTHING;
     octets::fill(&mut all[..], bytes);
@@ -395,21 +261,46 @@ fn echo_of(identifier: u32, bytes: &[u8]) -> Echo
     }
 }
 
-// An item's bytes are taken: echoed, stored where they are data, and the session moves on.
+// No echo.
+fn no_echo() -> Echo
+    ensures { λ r. ⌜ r ≡ noEcho ⌝ }
+{
+    Echo {
+        identifier: 0,
+        length: 0,
+        bytes: NOTHING,
+    }
+}
+
+// The echo of bytes that a session's stage takes.
+fn echo_of(session: Session, port: Port, bytes: &[u8]) -> Echo
+    requires { ⌜ length (now bytes) ≤ 8 ⌝ }
+    ensures { λ r. ⌜ r ≡ echoes (session .stage) port (now (bytes .entry)) ⌝ }
+{
+    let stage = session.stage;
+    match stage {
+        Stage::Waiting => echo_under(under_port(port, 0x001), bytes),
+        Stage::Password => echo_under(under_port(port, 0x001), bytes),
+        Stage::Header(_) => echo_under(under_port(port, 0x002), bytes),
+        Stage::Data(_, _) => echo_under(under_port(port, 0x003), bytes),
+        Stage::Stopped(_) => no_echo(),
+        Stage::Jumped(_) => no_echo(),
+    }
+}
+
+// An item's bytes are taken: the session moves on, they are echoed, and stored where they are data.
 fn take(session: Session, sram: &mut [u8], port: Port, bytes: &[u8]) -> Reply
     requires { ⌜ (rightSize (now sram) ≡ true) × (length (now bytes) ≤ 8) × Room (session .stage) (session .count) (length (now bytes)) ⌝ }
     ensures { λ r. ⌜ asAfter r (now (sram .exit)) ≡ takenBy session (now (sram .entry)) port (now (bytes .entry)) ⌝ }
 {
-    let stage = session.stage;
     let next = move_on(session, port, bytes);
-    let echo = echo_of(echo_identifier(port, stage), bytes);
-    keep(sram, stage, session.count, bytes);
     let outcome = next.outcome;
     let moved = next.session;
     let answer = Answer {
         outcome: outcome,
-        echo: echo,
+        echo: echo_of(session, port, bytes),
     };
+    keep(sram, session, bytes);
     Reply {
         answer: answer,
         session: moved,
@@ -420,14 +311,9 @@ fn take(session: Session, sram: &mut [u8], port: Port, bytes: &[u8]) -> Reply
 fn leave(session: Session, outcome: Outcome) -> Reply
     ensures { λ r. ⌜ r ≡ left outcome session ⌝ }
 {
-    let echo = Echo {
-        identifier: 0,
-        length: 0,
-        bytes: NOTHING,
-    };
     let answer = Answer {
         outcome: outcome,
-        echo: echo,
+        echo: no_echo(),
     };
     Reply {
         answer: answer,
@@ -435,24 +321,34 @@ fn leave(session: Session, outcome: Outcome) -> Reply
     }
 }
 
+// What is due before the session's rules: 7, then 8, then 6 for what is handed in where it is not of the right form.
+pub fn first_due(session: Session, sram: &[u8], formed: bool) -> Due
+    ensures { λ r. ⌜ r ≡ firstDue session (now (sram .entry)) formed ⌝ }
+{
+    let whole = sram::is_whole(sram);
+    let sound = stages::is_sound(session);
+    if !whole {
+        return Due::Refused(Fault::Size);
+    }
+    if !sound {
+        return Due::Refused(Fault::Unsound);
+    }
+    if !formed {
+        return Due::Refused(Fault::Form);
+    }
+    Due::Nothing
+}
+
 // One CAN frame.
 pub fn frame(session: Session, sram: &mut [u8], identifier: u32, data: &[u8]) -> Reply
     ensures { λ r. ⌜ asAfter r (now (sram .exit)) ≡ after session (now (sram .entry)) (Item.Frame identifier (now («data» .entry))) ⌝ }
 {
-    if !sram::is_whole(sram) {
-        return leave(session, Outcome::Refused(Fault::Size));
-    }
-    if !is_sound(session) {
-        return leave(session, Outcome::Refused(Fault::Unsound));
-    }
-    if 2047 < identifier {
-        return leave(session, Outcome::Refused(Fault::Form));
-    }
-    if 8 < data.len() {
-        return leave(session, Outcome::Refused(Fault::Form));
+    let due = first_due(session, sram, (identifier <= 2047) & (data.len() <= 8));
+    if let Due::Refused(fault) = due {
+        return leave(session, Outcome::Refused(fault));
     }
     let stage = session.stage;
-    if takes_frame(stage, identifier, data) {
+    if stages::takes_frame(stage, identifier, data) {
         return take(session, sram, Port::Can, data);
     }
     leave(session, Outcome::Ignored)
@@ -462,75 +358,14 @@ pub fn frame(session: Session, sram: &mut [u8], identifier: u32, data: &[u8]) ->
 pub fn byte(session: Session, sram: &mut [u8], value: u8, faulty: bool) -> Reply
     ensures { λ r. ⌜ asAfter r (now (sram .exit)) ≡ after session (now (sram .entry)) (Item.Byte value faulty) ⌝ }
 {
-    if !sram::is_whole(sram) {
-        return leave(session, Outcome::Refused(Fault::Size));
-    }
-    if !is_sound(session) {
-        return leave(session, Outcome::Refused(Fault::Unsound));
+    let due = first_due(session, sram, true);
+    if let Due::Refused(fault) = due {
+        return leave(session, Outcome::Refused(fault));
     }
     let stage = session.stage;
-    if takes_byte(stage, value, faulty) {
+    if stages::takes_byte(stage, value, faulty) {
         let item = [value];
         return take(session, sram, Port::Serial, &item[..]);
     }
     leave(session, Outcome::Ignored)
-}
-
-// The waiting session with a password selected.
-pub fn waiting(selected: [u8; 8]) -> Session
-    ensures { λ r. ⌜ r ≡ freshSession selected ⌝ }
-{
-    Session {
-        selected: selected,
-        stage: Stage::Waiting,
-        held: NOTHING,
-        count: 0,
-    }
-}
-
-// What stands for a session where there is none.
-fn no_session() -> Start
-    ensures { λ r. ⌜ r ≡ noSession ⌝ }
-{
-    Start {
-        serial: false,
-        session: waiting(NOTHING),
-    }
-}
-
-// The fresh session that a serial boot choice gives.
-pub fn fresh(choice: Choice) -> Start
-    ensures { λ r. ⌜ r ≡ freshFrom choice ⌝ }
-{
-    let answer = choice.answer;
-    match answer {
-        Booted::Refused => no_session(),
-        Booted::Boots(boot) => {
-            let mode = boot.mode;
-            let selected = choice.password;
-            match mode {
-                Mode::Internal => no_session(),
-                Mode::External => no_session(),
-                Mode::Serial(_) => Start {
-                    serial: true,
-                    session: waiting(selected),
-                },
-            }
-        }
-    }
-}
-
-// The accepted header, as the MMU rows ask for it.
-pub fn accepted(session: Session) -> mmu::Header
-    ensures { λ r. ⌜ r ≡ headerIn (session .stage) ⌝ }
-{
-    let stage = session.stage;
-    match stage {
-        Stage::Waiting => mmu::Header::NotAccepted,
-        Stage::Password => mmu::Header::NotAccepted,
-        Stage::Header(_) => mmu::Header::NotAccepted,
-        Stage::Data(_, load) => mmu::Header::Accepted(load.vle),
-        Stage::Stopped(_) => mmu::Header::NotAccepted,
-        Stage::Jumped(jump) => mmu::Header::Accepted(jump.vle),
-    }
 }

@@ -6,17 +6,18 @@ use mathlib.Core.Bool.{Bool, true, false, cond, not, _&&_, false≢true}
 use lib.Dec.{eqb}
 use lib.ListN.{length}
 use Rattle.header.specs.declared.Header.{Header}
-use Rattle.header.specs.Reading.{headerOf, announcesNone, within}
+use Rattle.header.specs.Reading.{headerOf, announcesNone, within, verdictOf}
 use Rattle.password.specs.Passing.{passes}
 use Rattle.sram.specs.Region.{rightSize}
-use Rattle.session.specs.declared.Load.{Load}
-use Rattle.session.specs.declared.Port.{Port}
-use Rattle.session.specs.declared.Session.{Session}
-use Rattle.session.specs.declared.Stage.{Stage}
-use Rattle.session.specs.Answers.{numberOf}
-use Rattle.session.specs.Items.{Item, wellFormed, portOf, bytesOf}
-use Rattle.session.specs.Rules.{takes, received, checked, judged, loaded, passwordMoved, headerMoved, moved, keeps, takenBy, ruled, after}
-use Rattle.session.specs.Sound.{sound}
+use Rattle.stages.specs.declared.Load.{Load}
+use Rattle.stages.specs.declared.Port.{Port}
+use Rattle.stages.specs.declared.Session.{Session}
+use Rattle.stages.specs.declared.Stage.{Stage}
+use Rattle.session.specs.Answers.{firstDue, numberOf}
+use Rattle.stages.specs.Items.{Item, wellFormed, portOf, bytesOf}
+use Rattle.stages.specs.Taking.{takes}
+use Rattle.session.specs.Rules.{received, checked, loaded, passwordMoved, headerMoved, moved, keeps, takenBy, ruled, after}
+use Rattle.stages.specs.Sound.{sound}
 use Rattle.trials.specs.Rows.{takenNumber, numberDue}
 
 password-number : (session : Session) (port : Port) (all : List ℕ) (a b : Bool) → eqb (length all) 8 ≡ a
@@ -33,17 +34,17 @@ header-number : (session : Session) (port : Port) (all : List ℕ) (a b c : Bool
     → numberOf (headerMoved session port all .outcome)
     ≡ cond (eqb (length all) 8 && announcesNone (headerOf all)) 3
     (cond (eqb (length all) 8 && not (announcesNone (headerOf all)) && not (within (headerOf all))) 4 0)
-unfolding headerMoved judged
+unfolding headerMoved verdictOf
 header-number session port all true true c e f g = rw (e, f)
 header-number session port all true false true e f g = rw (e, f, g)
 header-number session port all true false false e f g = rw (e, f, g)
 header-number session port all false b c e f g = rw e
 
-data-number : (session : Session) (port : Port) (load : Load) (count : ℕ) (a : Bool) → eqb count (load .owed) ≡ a
-    → numberOf (loaded session port load count .outcome) ≡ cond (eqb count (load .owed)) 5 0
+data-number : (selected : List ℕ) (port : Port) (load : Load) (count : ℕ) (a : Bool) → eqb count (load .owed) ≡ a
+    → numberOf (loaded selected port load count .outcome) ≡ cond (eqb count (load .owed)) 5 0
 unfolding loaded
-data-number session port load count true e = rw e
-data-number session port load count false e = rw e
+data-number selected port load count true e = rw e
+data-number selected port load count false e = rw e
 
 -- an item that is taken; stopped and jumped sessions take none
 taken-number : (stage : Stage) (session : Session) (item : Item) → takes stage item ≡ true
@@ -60,14 +61,14 @@ taken-number (Stage.Header port) session item e =
     let header = headerOf all in
     header-number session port all (eqb (length all) 8) (announcesNone header) (within header) refl refl refl
 taken-number (Stage.Data port load) session item e =
-    data-number session port load (length (bytesOf item)) (eqb (length (bytesOf item)) (load .owed)) refl
+    data-number (session .selected) port load (length (bytesOf item)) (eqb (length (bytesOf item)) (load .owed)) refl
 taken-number (Stage.Stopped refusal) session item e = absurd (false≢true e)
 taken-number (Stage.Jumped jump) session item e = absurd (false≢true e)
 
 module _ (session : Session) (sram : List ℕ) (item : Item) where
   pub exactly : (a b c d : Bool) → rightSize sram ≡ a → sound session ≡ b → wellFormed item ≡ c → takes (session .stage) item ≡ d
       → numberOf (after session sram item .answer .outcome) ≡ numberDue session sram item
-  unfolding after ruled takenBy
+  unfolding after ruled takenBy firstDue
   exactly true true true true p q r s = rw (p, q, r, s) (taken-number (session .stage) session item s)
   exactly true true true false p q r s = rw (p, q, r, s)
   exactly true true false d p q r s = rw (p, q, r)
@@ -95,7 +96,7 @@ module _ (session : Session) (sram : List ℕ) (item : Item) where
 
   pub kept : (a b c d : Bool) → rightSize sram ≡ a → sound session ≡ b → wellFormed item ≡ c → takes (session .stage) item ≡ d
       → (numberDue session sram item ≡ 0 → ⊥) → (numberDue session sram item ≡ 5 → ⊥) → after session sram item .sram ≡ sram
-  unfolding after ruled takenBy
+  unfolding after ruled takenBy firstDue
   kept true true true true p q r s not-0 not-5 =
       rw (p, q, r, s)
       (taken-kept (session .stage) (bytesOf item) (λ zero. not-0 (rw (p, q, r, s) zero)) (λ five. not-5 (rw (p, q, r, s) five)))

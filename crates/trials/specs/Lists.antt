@@ -6,11 +6,11 @@ use mathlib.Core.Bool.{true, false}
 use lib.ListN.{replicate}
 use Rattle.boot.specs.Table.{publicPassword}
 use Rattle.session.specs.declared.Answer.{Answer}
-use Rattle.session.specs.declared.Port.{Port}
-use Rattle.session.specs.declared.Stage.{Stage}
+use Rattle.stages.specs.declared.Port.{Port}
+use Rattle.stages.specs.declared.Stage.{Stage}
 use Rattle.session.specs.Answers.{numberOf}
-use Rattle.session.specs.Fresh.{freshSession}
-use Rattle.session.specs.Items.{Item}
+use Rattle.stages.specs.Fresh.{freshSession}
+use Rattle.stages.specs.Items.{Item}
 use Rattle.merging.specs.Running.{Run, ran, jumpsIn}
 use Rattle.merging.specs.Plain.{plainOf, complete}
 use Rattle.trials.specs.Trials.{Case, trial, zeroes}
@@ -50,7 +50,7 @@ lacking =
     ++ clean (0x40 ∷ 0x00 ∷ 0x00 ∷ 0x04 ∷ 0x00 ∷ 0x00 ∷ 0x00 ∷ 0x02 ∷ [])
     ++ (Item.Byte 0xAA false ∷ Item.Frame 0x011 (replicate 9 0) ∷ Item.Byte 0xBB true ∷ [])
 
-abbrev pub listTable : List Case
+unfoldable pub listTable : List Case
 listTable =
     trial (numbersOf (runOf jumping)) (1 ∷ 6 ∷ 1 ∷ 0 ∷ 1 ∷ 0 ∷ 1 ∷ 0 ∷ 1 ∷ 6 ∷ 5 ∷ 1 ∷ [])
     ∷ trial (jumpsIn (runOf jumping .answers)) (record { start = record { 0 = 0x40000000 }; vle = true } ∷ [])

@@ -8,12 +8,13 @@ use lib.ListN.{length}
 use Rattle.header.specs.Reading.{headerOf, announcesNone, within}
 use Rattle.password.specs.Passing.{passes}
 use Rattle.sram.specs.Region.{rightSize}
-use Rattle.session.specs.declared.Session.{Session}
-use Rattle.session.specs.declared.Stage.{Stage}
+use Rattle.stages.specs.declared.Session.{Session}
+use Rattle.stages.specs.declared.Stage.{Stage}
 use Rattle.session.specs.Answers.{numberOf}
-use Rattle.session.specs.Items.{Item, wellFormed, bytesOf}
-use Rattle.session.specs.Rules.{takes, received, after}
-use Rattle.session.specs.Sound.{sound}
+use Rattle.stages.specs.Items.{Item, wellFormed, bytesOf}
+use Rattle.stages.specs.Taking.{takes}
+use Rattle.session.specs.Rules.{received, after}
+use Rattle.stages.specs.Sound.{sound}
 
 -- 2: "8th password byte in, check not passed"
 abbrev pub wrongPassword : Stage → Session → List ℕ → Bool

@@ -11,12 +11,12 @@ use Rattle.boot.specs.declared.Mode.{Mode}
 use Rattle.boot.specs.Choosing.{bootChoice}
 use Rattle.boot.specs.Places.{good}
 use Rattle.boot.specs.Table.{publicPassword}
-use Rattle.session.specs.declared.Port.{Port}
-use Rattle.session.specs.declared.Session.{Session}
-use Rattle.session.specs.declared.Stage.{Stage}
+use Rattle.stages.specs.declared.Port.{Port}
+use Rattle.stages.specs.declared.Session.{Session}
+use Rattle.stages.specs.declared.Stage.{Stage}
 use Rattle.session.specs.Answers.{After, numberOf}
-use Rattle.session.specs.Fresh.{freshSession}
-use Rattle.session.specs.Items.{Item}
+use Rattle.stages.specs.Fresh.{freshSession}
+use Rattle.stages.specs.Items.{Item}
 use Rattle.session.specs.Rules.{after}
 
 -- a case: what the rules give, and what 01 says that it is
@@ -68,7 +68,7 @@ with5A place = replicate (place + 1) 0 ++ 0x5A ∷ replicate (0x30006 - place) 0
 abbrev internalBoot : List ℕ → Answer
 internalBoot flash = bootChoice 0 flash (replicate 12 0) (replicate 8 0) .answer
 
-abbrev pub table : List Case
+unfoldable pub table : List Case
 table =
     -- P1 "header 40 00 00 00 80 00 14 00: start 0x40000000, VLE, 5,120 bytes"
     trial (stageAfter (0x40 ∷ 0x00 ∷ 0x00 ∷ 0x00 ∷ 0x80 ∷ 0x00 ∷ 0x14 ∷ 0x00 ∷ []))

@@ -1,12 +1,10 @@
 -- `calls::put_reply` meets its contract: the session, then the 13 numbers of the answer, and the answer's number.
-use native.Mathlib.Omega.{arith}
 use mathlib.Core.Path.{sym, _∙_}
 use denote.Ref.{now}
 use borrow.Author.Needs.{needs}
+use Rattle.octets.proofs.Lending.{fill-whole}
 use Rattle.numbers.specs.Writing.{answerNumbers}
 use Rattle.merging.proofs.Handing.{answer-length}
-use Rattle.octets.proofs.Lending.{fill-whole}
-use Rattle.calls.proofs.Laws.{number-small}
 use Rattle.calls.proofs.put_reply.Statement.{statement}
 use Rattle.calls.proofs.put_reply.Tie as tie
 
@@ -33,20 +31,17 @@ same-length-2 c = search needs
 
 returns : tie.Need-returns
 returns c =
-    let start = c .before .before .before .before .before .before .before .before .before .before .before .before .before .before .before in
+    let filled = c .before .before .before in
+    let put = filled .before .before .before .before .before .before in
+    let start = put .before .before .before .before .before .before in
     let said = start .args .reply .answer in
     rw (
       c .outcome-number .ensures,
-      c .before .before .before .before .before .before .before .before .before .put-session .ensures,
-      c .before .before .before .fill-words .ensures,
-      c .before .before .before .before .before .before .answer-numbers .ensures,
+      put .put-session .ensures,
+      filled .fill-words .ensures,
+      filled .before .before .before .answer-numbers .ensures,
       fill-whole (answerNumbers said) (now (start .args .answer)) (start .pre .1 ∙ sym (answer-length said)),
     )
-
-cast-result : tie.Need-cast-result
-cast-result c =
-    let start = c .before .before .before .before .before .before .before .before .before .before .before .before .before .before .before in
-    omega (arith, c .outcome-number .ensures, number-small (start .args .reply .answer .outcome))
 
 pub put-reply-spec : {M : Type 1} → statement M
 put-reply-spec =
@@ -57,7 +52,6 @@ put-reply-spec =
     slice-aggregate-fill-words
     fill-words-requires
     outcome-number-requires
-    cast-result
     same-length
     same-length-2
     returns)

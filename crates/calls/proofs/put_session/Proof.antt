@@ -4,7 +4,7 @@ use denote.Ref.{now}
 use borrow.Author.Needs.{needs}
 use Rattle.numbers.specs.Writing.{sessionNumbers}
 use Rattle.octets.proofs.Lending.{fill-whole}
-use Rattle.calls.proofs.Laws.{session-length}
+use Rattle.numbers.proofs.Lengths.{session-length}
 use Rattle.calls.proofs.put_session.Statement.{statement}
 use Rattle.calls.proofs.put_session.Tie as tie
 

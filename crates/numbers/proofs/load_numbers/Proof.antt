@@ -24,6 +24,9 @@ enum-known-stage-2 c = search needs
 refusal-number-requires : tie.Need-refusal-number-requires
 refusal-number-requires c κs = search needs
 
+wide-requires : tie.Need-wide-requires
+wide-requires c κs = search needs
+
 enum-known-stage-3 : tie.Need-enum-known-stage-3
 enum-known-stage-3 c = search needs
 
@@ -43,7 +46,7 @@ returns-4 : tie.Need-returns-4
 returns-4 c = rw (c .flag .ensures, c .before .before .stage .given .1)
 
 returns-5 : tie.Need-returns-5
-returns-5 c = rw (c .refusal-number .ensures, c .before .before .stage2 .given .1)
+returns-5 c = rw (c .wide .ensures, c .before .refusal-number .ensures, c .before .before .before .stage2 .given .1)
 
 returns-6 : tie.Need-returns-6
 returns-6 c = rw (c .flag2 .ensures, c .before .before .stage3 .given .1)
@@ -59,6 +62,7 @@ load-numbers-spec =
     flag-requires
     enum-known-stage-2
     refusal-number-requires
+    wide-requires
     enum-known-stage-3
     flag-requires-2
     returns

@@ -1,30 +1,64 @@
--- `numbers::read_session` meets its contract: each field is what its function ensures.
+-- `numbers::read_session` meets its contract: the numbers are those of the session read, or they are not.
+use Prim.Native.Nat.{ℕ}
+use mathlib.Core.Path.{_≡_, sym, ap, _∙_}
+use mathlib.Core.List.{List}
+use mathlib.Core.Bool.{Bool}
 use borrow.Author.Needs.{needs}
+use Rattle.octets.specs.Same.{same}
+use Rattle.stages.specs.declared.Session.{Session}
+use Rattle.numbers.specs.Writing.{sessionNumbers}
+use Rattle.numbers.specs.Reading.{sessionRead, encodes, sessionIn}
 use Rattle.numbers.proofs.read_session.Statement.{statement}
 use Rattle.numbers.proofs.read_session.Tie as tie
 
-selected-in-requires : tie.Need-selected-in-requires
-selected-in-requires c κs = search needs
+decode-requires : tie.Need-decode-requires
+decode-requires c κs = search needs
 
-held-in-requires : tie.Need-held-in-requires
-held-in-requires c κs = search needs
+session-numbers-requires : tie.Need-session-numbers-requires
+session-numbers-requires c κs = search needs
 
-read-stage-requires : tie.Need-read-stage-requires
-read-stage-requires c κs = search needs
+is-same-requires : tie.Need-is-same-requires
+is-same-requires c κs = search needs
 
-byte-in-requires : tie.Need-byte-in-requires
-byte-in-requires c κs = search needs
+-- what the comparison says
+compared : (numbers written : List ℕ) (read : Session) (b : Bool) → b ≡ same written numbers
+    → written ≡ sessionNumbers read
+    → read ≡ sessionRead numbers
+    → encodes numbers ≡ b
+unfolding encodes
+compared numbers written read b e f g = sym (e ∙ ap (λ w. same w numbers) (f ∙ ap sessionNumbers g))
 
 returns : tie.Need-returns
+unfolding sessionIn
 returns c =
+    let written = c .before .before in
     rw (
-      c .before .before .before .selected-in .ensures,
-      c .before .before .held-in .ensures,
-      c .before .read-stage .ensures,
-      c .byte-in .ensures,
+      compared _ _ _ _ (c .before .is-same .ensures) (written .session-numbers .ensures .equation) (written .before .decode .ensures),
+      c .if1 .taken,
     )
+    (written .before .decode .ensures)
+
+unsound-requires : tie.Need-unsound-requires
+unsound-requires c κs = search needs
+
+returns-2 : tie.Need-returns-2
+unfolding sessionIn
+returns-2 c =
+    let test = c .before in
+    let written = test .before .before in
+    rw (
+      compared _ _ _ _ (test .before .is-same .ensures) (written .session-numbers .ensures .equation) (written .before .decode .ensures),
+      test .if1 .left,
+    )
+    (c .unsound .ensures)
 
 pub read-session-spec : {M : Type 1} → statement M
 read-session-spec =
     tie.close
-    (tie.spec selected-in-requires held-in-requires read-stage-requires byte-in-requires returns)
+    (tie.spec
+    decode-requires
+    session-numbers-requires
+    is-same-requires
+    returns
+    unsound-requires
+    returns-2)

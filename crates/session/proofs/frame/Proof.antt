@@ -1,19 +1,18 @@
--- `session::frame` meets its contract: each test left, or the data taken.
+-- `session::frame` meets its contract: what is due is left, or the data taken.
 use mathlib.Core.Path.{sym, _∙_}
-use mathlib.Core.Bool.{and-false}
 use denote.Ref.{now}
 use borrow.Author.Needs.{needs}
-use borrow.Author.Tests.{not-true, not-false, le-leb, lt-leb}
-use Rattle.session.specs.Items.{Item}
-use Rattle.session.specs.Sound.{sound}
+use Rattle.stages.specs.Items.{Item}
 use Rattle.session.specs.Rules.{after, ruled}
-use Rattle.session.proofs.Laws.{Accepted}
-use Rattle.session.proofs.Taking.{taken-room}
+use Rattle.session.proofs.Taking.{taken-ready}
 use Rattle.session.proofs.frame.Statement.{statement}
 use Rattle.session.proofs.frame.Tie as tie
 
-is-whole-requires : tie.Need-is-whole-requires
-is-whole-requires c κs = search needs
+first-due-requires : tie.Need-first-due-requires
+first-due-requires c κs = search needs
+
+enum-known-due : tie.Need-enum-known-due
+enum-known-due c = search needs
 
 leave-requires : tie.Need-leave-requires
 leave-requires c κs = search needs
@@ -23,136 +22,75 @@ same-length c = search needs
 
 returns : tie.Need-returns
 unfolding after
-returns c = rw (c .leave .ensures, sym (c .before .before .is-whole .ensures) ∙ not-true _ (c .before .if1 .taken))
+returns c =
+    let told = c .before .before in
+    rw (c .leave .ensures, ← told .before .before .first-due .ensures, told .due .given .1)
 
-is-sound-requires : tie.Need-is-sound-requires
-is-sound-requires c κs = search needs
-
-leave-requires-2 : tie.Need-leave-requires-2
-leave-requires-2 c κs = search needs
-
-same-length-2 : tie.Need-same-length-2
-same-length-2 c = search needs
-
-returns-2 : tie.Need-returns-2
-unfolding after
-returns-2 c =
-    let whole = c .before .before .before in
-    rw (
-      c .leave2 .ensures,
-      sym (whole .before .is-whole .ensures) ∙ not-false _ (whole .if1 .left),
-      sym (c .before .before .is-sound .ensures) ∙ not-true _ (c .before .if2 .taken),
-    )
-
-neither-due : (c : tie.Else2) → let a = c .before .before .before .before .before .before .before .args in Accepted (a .session) (now (a .sram))
-neither-due c =
-    record {
-      right = sym (c .before .before .before .is-whole .ensures) ∙ not-false _ (c .before .before .if1 .left);
-      fine = sym (c .before .is-sound .ensures) ∙ not-false _ (c .if2 .left);
-    }
-
-leave-requires-3 : tie.Need-leave-requires-3
-leave-requires-3 c κs = search needs
-
-same-length-3 : tie.Need-same-length-3
-same-length-3 c = search needs
-
-returns-3 : tie.Need-returns-3
-unfolding after
-returns-3 c =
-    let ok = neither-due (c .before .before) in
-    rw (c .leave3 .ensures, ok .right, ok .fine, lt-leb _ _ (c .before .if3 .taken))
-
-leave-requires-4 : tie.Need-leave-requires-4
-leave-requires-4 c κs = search needs
-
-same-length-4 : tie.Need-same-length-4
-same-length-4 c = search needs
-
-returns-4 : tie.Need-returns-4
-unfolding after
-returns-4 c =
-    let ok = neither-due (c .before .before .before) in
-    rw (c .leave4 .ensures, ok .right, ok .fine, lt-leb _ _ (c .before .if4 .taken), and-false)
+enum-told : tie.Need-enum-told
+enum-told c = search needs
 
 takes-frame-requires : tie.Need-takes-frame-requires
 takes-frame-requires c κs = search needs
 
 take-requires : tie.Need-take-requires
-unfolding sound
 take-requires c κs =
     let test = c .before in
-    let ok = neither-due (test .before .before .before .before) in
-    let a = test .before .before .before .before .before .before .before .before .before .before .before .args in (
-      ok .right,
-      test .before .before .if4 .left,
-      taken-room (a .session .stage) (a .session .count) (Item.Frame (a .identifier) (now (a .«data»))) (ok .fine)
-          (sym (test .before .takes-frame .ensures) ∙ test .if5 .taken),
-    )
+    let told = test .before .before in
+    let due = told .before .before in
+    let a = due .before .before .before .before .args in
+    taken-ready (a .session) (now (a .sram)) (Item.Frame (a .identifier) (now (a .«data»)))
+    (sym (due .first-due .ensures) ∙ told .enum-told .given .1)
+    (sym (test .before .takes-frame .ensures) ∙ test .if1 .taken)
 
-same-length-5 : tie.Need-same-length-5
-same-length-5 c = search needs
+same-length-2 : tie.Need-same-length-2
+same-length-2 c = search needs
 
-returns-5 : tie.Need-returns-5
+returns-2 : tie.Need-returns-2
 unfolding after ruled
-returns-5 c =
+returns-2 c =
     let test = c .before .before .before .before in
-    let formed = test .before .before in
-    let ok = neither-due (formed .before .before) in
+    let told = test .before .before in
     rw (
       c .before .before .take .ensures,
-      ok .right,
-      ok .fine,
-      le-leb _ _ (formed .before .if3 .left),
-      le-leb _ _ (formed .if4 .left),
+      ← told .before .before .first-due .ensures,
+      told .enum-told .given .1,
       ← test .before .takes-frame .ensures,
-      test .if5 .taken,
+      test .if1 .taken,
     )
 
-leave-requires-5 : tie.Need-leave-requires-5
-leave-requires-5 c κs = search needs
+leave-requires-2 : tie.Need-leave-requires-2
+leave-requires-2 c κs = search needs
 
-same-length-6 : tie.Need-same-length-6
-same-length-6 c = search needs
+same-length-3 : tie.Need-same-length-3
+same-length-3 c = search needs
 
-returns-6 : tie.Need-returns-6
+returns-3 : tie.Need-returns-3
 unfolding after ruled
-returns-6 c =
+returns-3 c =
     let test = c .before in
-    let formed = test .before .before in
-    let ok = neither-due (formed .before .before) in
+    let told = test .before .before in
     rw (
-      c .leave5 .ensures,
-      ok .right,
-      ok .fine,
-      le-leb _ _ (formed .before .if3 .left),
-      le-leb _ _ (formed .if4 .left),
+      c .leave2 .ensures,
+      ← told .before .before .first-due .ensures,
+      told .enum-told .given .1,
       ← test .before .takes-frame .ensures,
-      test .if5 .left,
+      test .if1 .left,
     )
 
 pub frame-spec : {M : Type 1} → statement M
 frame-spec =
     tie.close
     (tie.spec
-    is-whole-requires
+    first-due-requires
+    enum-known-due
     leave-requires
     same-length
     returns
-    is-sound-requires
-    leave-requires-2
-    same-length-2
-    returns-2
-    leave-requires-3
-    same-length-3
-    returns-3
-    leave-requires-4
-    same-length-4
-    returns-4
+    enum-told
     takes-frame-requires
     take-requires
-    same-length-5
-    returns-5
-    leave-requires-5
-    same-length-6
-    returns-6)
+    same-length-2
+    returns-2
+    leave-requires-2
+    same-length-3
+    returns-3)

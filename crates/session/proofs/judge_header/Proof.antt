@@ -1,46 +1,45 @@
--- `session::judge_header` meets its contract: a length of 0, a load that lies in SRAM, and one that does not.
+-- `session::judge_header` meets its contract: each arm is the definition's case.
 use borrow.Author.Needs.{needs}
-use borrow.Author.Tests.{ne-eqb}
-use Rattle.session.specs.Rules.{judged}
 use Rattle.session.proofs.judge_header.Statement.{statement}
 use Rattle.session.proofs.judge_header.Tie as tie
+
+enum-told : tie.Need-enum-told
+enum-told c = search needs
 
 enter-requires : tie.Need-enter-requires
 enter-requires c κs = search needs
 
-returns : tie.Need-returns
-unfolding judged
-returns c = rw (c .enter .ensures, c .before .if1 .taken)
-
-is-within-requires : tie.Need-is-within-requires
-is-within-requires c κs = search needs
+enum-told-2 : tie.Need-enum-told-2
+enum-told-2 c = search needs
 
 enter-requires-2 : tie.Need-enter-requires-2
 enter-requires-2 c κs = search needs
 
-returns-2 : tie.Need-returns-2
-unfolding judged
-returns-2 c =
-    let test = c .before in
-    rw (c .enter2 .ensures, ne-eqb _ _ (test .before .before .before .if1 .left), ← test .before .is-within .ensures, test .if2 .taken)
+enum-known-verdict : tie.Need-enum-known-verdict
+enum-known-verdict c = search needs
 
 enter-requires-3 : tie.Need-enter-requires-3
 enter-requires-3 c κs = search needs
 
+returns : tie.Need-returns
+returns c = rw (c .enter .ensures, c .before .enum-told .given .1)
+
+returns-2 : tie.Need-returns-2
+returns-2 c = rw (c .enter2 .ensures, c .before .enum-told2 .given .1)
+
 returns-3 : tie.Need-returns-3
-unfolding judged
-returns-3 c =
-    let test = c .before in
-    rw (c .enter3 .ensures, ne-eqb _ _ (test .before .before .before .if1 .left), ← test .before .is-within .ensures, test .if2 .left)
+returns-3 c = rw (c .enter3 .ensures, c .before .before .before .verdict .given .1)
 
 pub judge-header-spec : {M : Type 1} → statement M
 judge-header-spec =
     tie.close
     (tie.spec
+    enum-told
     enter-requires
-    returns
-    is-within-requires
+    enum-told-2
     enter-requires-2
-    returns-2
+    enum-known-verdict
     enter-requires-3
+    returns
+    returns-2
     returns-3)

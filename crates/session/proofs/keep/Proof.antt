@@ -3,9 +3,9 @@ use lib.ListN.{length}
 use denote.Ref.{now}
 use borrow.Author.Needs.{needs}
 use Rattle.sram.proofs.Laws.{lies-part, stored-within}
+use Rattle.stages.proofs.Laws.{load-fits}
 use Rattle.session.specs.Rules.{keeps}
 use Rattle.session.specs.Room.{LoadRoom}
-use Rattle.session.proofs.Laws.{load-fits}
 use Rattle.session.proofs.keep.Statement.{statement}
 use Rattle.session.proofs.keep.Tie as tie
 

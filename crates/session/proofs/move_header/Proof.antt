@@ -15,8 +15,8 @@ eight c = search needs
 gather-requires : tie.Need-gather-requires
 gather-requires c κs = search needs
 
-read-requires : tie.Need-read-requires
-read-requires c κs = search needs
+judge-requires : tie.Need-judge-requires
+judge-requires c κs = search needs
 
 judge-header-requires : tie.Need-judge-header-requires
 judge-header-requires c κs = search needs
@@ -24,13 +24,13 @@ judge-header-requires c κs = search needs
 returns : tie.Need-returns
 unfolding headerMoved
 returns c =
-    let test = c .before .before in
+    let test = c .before .before .before in
     let start = test .before .before .before .before in
     let s = start .args .session in
     let bytes = now (start .args .bytes) in
     rw (
       c .judge-header .ensures,
-      c .before .read .ensures,
+      c .before .judge .ensures,
       test .before .before .gather .ensures,
       received-whole s bytes (eight start) (start .pre) (test .if1 .taken),
       received-length s bytes (eight start) (start .pre),
@@ -70,7 +70,7 @@ move-header-spec =
     gather-requires
     cast-count
     add-count
-    read-requires
+    judge-requires
     judge-header-requires
     returns
     cast-hold

@@ -7,7 +7,7 @@ use Rattle.sram.specs.Region.{size, base}
 use Rattle.sram.proofs.Laws.{lies-end}
 use Rattle.session.specs.Rules.{moved}
 use Rattle.session.specs.Room.{LoadRoom}
-use Rattle.session.proofs.Laws.{load-fits}
+use Rattle.stages.proofs.Laws.{load-fits}
 use Rattle.session.proofs.move_on.Statement.{statement}
 use Rattle.session.proofs.move_on.Tie as tie
 
@@ -15,25 +15,25 @@ enum-told : tie.Need-enum-told
 enum-told c = search needs
 
 move-password-requires : tie.Need-move-password-requires
-move-password-requires c κs = rw (c .enum-told .given .1) at (c .before .before .before .pre)
+move-password-requires c κs = rw (c .enum-told .given .1) at (c .before .before .before .before .pre)
 
 enum-told-2 : tie.Need-enum-told-2
 enum-told-2 c = search needs
 
 move-password-requires-2 : tie.Need-move-password-requires-2
-move-password-requires-2 c κs = rw (c .enum-told2 .given .1) at (c .before .before .before .pre)
+move-password-requires-2 c κs = rw (c .enum-told2 .given .1) at (c .before .before .before .before .pre)
 
 enum-known-stage : tie.Need-enum-known-stage
 enum-known-stage c = search needs
 
 move-header-requires : tie.Need-move-header-requires
-move-header-requires c κs = rw (c .before .stage .given .1) at (c .before .before .before .before .pre)
+move-header-requires c κs = rw (c .before .stage .given .1) at (c .before .before .before .before .before .pre)
 
 enum-known-stage-2 : tie.Need-enum-known-stage-2
 enum-known-stage-2 c = search needs
 
 advance-requires : tie.Need-advance-requires
-advance-requires c κs = rw (c .before .stage2 .given .1) at (c .before .before .before .before .pre)
+advance-requires c κs = rw (c .before .stage2 .given .1) at (c .before .before .before .before .before .pre)
 
 enum-told-3 : tie.Need-enum-told-3
 enum-told-3 c = search needs
@@ -74,7 +74,7 @@ returns-6 c = rw (c .enter2 .ensures, c .before .enum-told4 .given .1)
 cast-advance : tie.Need-cast-advance
 unfolding base size
 cast-advance c =
-    let start = c .before .before .before .before in
+    let start = c .before .before .before .before .before in
     let load = c .before .stage2 .given .0 .1 .0 in
     let room : LoadRoom load (length (now (start .args .bytes))) = rw (c .before .stage2 .given .1) at (start .pre) in
     omega (arith, lies-end (load .next) (load .owed) (load-fits load (room .0) .inside))

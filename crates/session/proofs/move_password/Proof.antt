@@ -21,7 +21,7 @@ check-password-requires c κs = search needs
 returns : tie.Need-returns
 unfolding passwordMoved
 returns c =
-    let test = c .before in
+    let test = c .before .before in
     let start = test .before .before .before .before in
     let s = start .args .session in
     let bytes = now (start .args .bytes) in

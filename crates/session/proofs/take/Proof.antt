@@ -7,9 +7,6 @@ use Rattle.session.proofs.take.Tie as tie
 move-on-requires : tie.Need-move-on-requires
 move-on-requires c κs = search needs
 
-echo-identifier-requires : tie.Need-echo-identifier-requires
-echo-identifier-requires c κs = search needs
-
 echo-of-requires : tie.Need-echo-of-requires
 echo-of-requires c κs = search needs
 
@@ -22,22 +19,10 @@ same-length c = search needs
 returns : tie.Need-returns
 unfolding takenBy
 returns c =
-    let keep = c .before .before .before in
+    let keep = c .before .before in
     let echo = keep .before .before in
-    rw (
-      keep .keep .ensures,
-      echo .echo-of .ensures,
-      echo .before .echo-identifier .ensures,
-      echo .before .before .move-on .ensures,
-    )
+    rw (keep .keep .ensures, echo .echo-of .ensures, echo .before .before .move-on .ensures)
 
 pub take-spec : {M : Type 1} → statement M
 take-spec =
-    tie.close
-    (tie.spec
-    move-on-requires
-    echo-identifier-requires
-    echo-of-requires
-    keep-requires
-    same-length
-    returns)
+    tie.close (tie.spec move-on-requires echo-of-requires keep-requires same-length returns)

@@ -4,17 +4,21 @@ use Rattle.octets.specs.Same.{same}
 use Rattle.boot.specs.Choosing.{bootChoice, chosen, settled}
 use Rattle.boot.specs.Places.{good, walk, flashPlaces}
 use Rattle.boot.specs.Table.{askedBy, rowFor, rowOf, control55AA}
+use Rattle.header.specs.Reading.{verdictOf}
 use Rattle.password.specs.Passing.{passes}
 use Rattle.sram.specs.Region.{size, base, lies}
-use Rattle.session.specs.Sound.{sound}
-use Rattle.session.specs.Rules.{after, ruled, takes, takenBy, moved, passwordMoved, checked, headerMoved, judged}
+use Rattle.stages.specs.Sound.{sound}
+use Rattle.stages.specs.Taking.{takes}
+use Rattle.session.specs.Answers.{firstDue}
+use Rattle.session.specs.Rules.{after, ruled, takenBy, moved, passwordMoved, checked, headerMoved}
+use Rattle.trials.specs.Trials.{table}
 use Rattle.trials.proofs.cases_agree.Statement.{statement}
 use Rattle.trials.proofs.cases_agree.Tie as tie
 
 returns : tie.Need-returns
 unfolding
-    bootChoice chosen settled good walk flashPlaces askedBy rowFor rowOf control55AA same passes size base lies sound after ruled takes
-    takenBy moved passwordMoved checked headerMoved judged
+    table bootChoice chosen settled good walk flashPlaces askedBy rowFor rowOf control55AA same passes size base lies sound firstDue after ruled takes
+    takenBy moved passwordMoved checked headerMoved verdictOf
 returns c =
     (refl, (refl, (refl, (refl, (refl, (refl, (refl, (refl, (refl, (refl, (refl, (refl, tt))))))))))))
 

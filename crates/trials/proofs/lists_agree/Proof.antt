@@ -1,18 +1,22 @@
 -- `trials::lists_agree` meets its contract: each case holds by computation.
 use mathlib.Core.Path.{refl}
 use Rattle.octets.specs.Same.{same}
+use Rattle.header.specs.Reading.{verdictOf}
 use Rattle.password.specs.Passing.{passes}
 use Rattle.sram.specs.Region.{size, base, lies, aligned, stored}
-use Rattle.session.specs.Sound.{sound}
-use Rattle.session.specs.Rules.{after, ruled, takes, takenBy, moved, passwordMoved, checked, headerMoved, judged, loaded, keeps}
+use Rattle.stages.specs.Sound.{sound}
+use Rattle.stages.specs.Taking.{takes}
+use Rattle.session.specs.Answers.{firstDue}
+use Rattle.session.specs.Rules.{after, ruled, takenBy, moved, passwordMoved, checked, headerMoved, loaded, keeps}
 use Rattle.merging.specs.Running.{ran, pickedPort, only, jumpsIn}
 use Rattle.merging.specs.Plain.{cleanBytes, dataBytes, headerBytes, frameBytes, complete}
+use Rattle.trials.specs.Lists.{listTable}
 use Rattle.trials.proofs.lists_agree.Statement.{statement}
 use Rattle.trials.proofs.lists_agree.Tie as tie
 
 returns : tie.Need-returns
 unfolding
-    same passes size base lies aligned stored sound after ruled takes takenBy moved passwordMoved checked headerMoved judged loaded keeps
+    listTable same passes size base lies aligned stored sound firstDue after ruled takes takenBy moved passwordMoved checked headerMoved verdictOf loaded keeps
     ran pickedPort only jumpsIn cleanBytes dataBytes headerBytes frameBytes complete
 returns c = (refl, (refl, (refl, (refl, (refl, (refl, (refl, (refl, tt))))))))
 

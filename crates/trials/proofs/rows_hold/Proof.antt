@@ -1,9 +1,9 @@
 -- `trials::rows_hold` meets its contract: by the tests of the table's rows.
 use mathlib.Core.Path.{refl}
 use Rattle.sram.specs.Region.{rightSize}
-use Rattle.session.specs.Items.{wellFormed}
-use Rattle.session.specs.Rules.{takes}
-use Rattle.session.specs.Sound.{sound}
+use Rattle.stages.specs.Items.{wellFormed}
+use Rattle.stages.specs.Taking.{takes}
+use Rattle.stages.specs.Sound.{sound}
 use Rattle.trials.proofs.Answering.{exactly, kept}
 use Rattle.trials.proofs.rows_hold.Statement.{statement}
 use Rattle.trials.proofs.rows_hold.Tie as tie

@@ -1,0 +1,4 @@
+pub mod Items
+pub mod Sound
+pub mod Taking
+pub mod Fresh
