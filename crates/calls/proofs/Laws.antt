@@ -14,7 +14,7 @@ use Rattle.session.specs.Answers.{After, asAfter, firstDue}
 use Rattle.session.proofs.Laws.{nothing-due, fault-some}
 use Rattle.numbers.specs.Reading.{sessionIn}
 use Rattle.numbers.proofs.Lengths.{sound-length}
-use Rattle.merging.specs.Listing.{itemsOf, listFits, ListAfter, listDue, listAfter}
+use Rattle.merging.specs.Listing.{itemsOf, listFits, ListAfter, listDue, afterList}
 use Rattle.calls.specs.Crossing.{asReply, leaves, dueNumber, itemDue}
 
 -- numbers of a session for which nothing is due
@@ -38,10 +38,10 @@ item-room session sram formed room e = by (firstDue (sessionIn session) sram for
 
 -- a list that gets 0 has room for its session
 pub list-length : (session sram kinds identifiers counts bytes answers : List ℕ) (leaves : ListAfter)
-    → leaves ≡ listAfter (sessionIn session) sram kinds identifiers counts bytes answers
+    → leaves ≡ afterList (sessionIn session) sram kinds identifiers counts bytes answers
     → leaves .number ≡ 0
     → length session ≡ 24
-unfolding listAfter
+unfolding afterList
 list-length session sram kinds identifiers counts bytes answers leaves e zero =
     by (firstDue (sessionIn session) sram (listFits kinds identifiers counts (length bytes) (length answers))) refl
     (sym (ap (λ (l : ListAfter). l .number) e) ∙ zero)

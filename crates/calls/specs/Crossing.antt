@@ -15,7 +15,7 @@ use Rattle.session.specs.Rules.{after}
 use Rattle.numbers.specs.Writing.{sessionNumbers, answerNumbers}
 use Rattle.numbers.specs.Reading.{sessionIn}
 use Rattle.choices.specs.Numbers.{modeOf}
-use Rattle.merging.specs.Listing.{ListAfter, listAfter}
+use Rattle.merging.specs.Listing.{ListAfter, afterList}
 
 -- a call: its number, and the numbers of the session, SRAM and the numbers of the answer or the answers as it leaves them
 pub record Reply : Type 0 where
@@ -57,7 +57,7 @@ listLeaves session next =
 -- a list of items
 unfoldable pub listReply : List ℕ → List ℕ → List ℕ → List ℕ → List ℕ → List ℕ → List ℕ → Reply
 listReply session sram kinds identifiers counts bytes answers =
-    listLeaves session (listAfter (sessionIn session) sram kinds identifiers counts bytes answers)
+    listLeaves session (afterList (sessionIn session) sram kinds identifiers counts bytes answers)
 
 -- a fresh session: its number, and its numbers
 pub record FreshReply : Type 0 where
@@ -73,8 +73,8 @@ freshLeaves start session =
     cond (start .serial) (asFreshReply 0 (sessionNumbers (start .session))) (asFreshReply 9 session)
 
 -- for the number of a way to boot; 9 for a number that no way has, a password of another length than 8, or a session that has not 24 places
-unfoldable pub freshReply : ℕ → List ℕ → List ℕ → FreshReply
-freshReply mode password session =
+unfoldable pub sessionReply : ℕ → List ℕ → List ℕ → FreshReply
+sessionReply mode password session =
     cond (leb mode 4 && eqb (length password) 8 && eqb (length session) 24)
     (freshLeaves (freshIn (modeOf mode) (firstEight password)) session)
     (asFreshReply 9 session)

@@ -7,7 +7,7 @@ ghost use lib.ListN.{length};
 ghost use Rattle.session.specs.Answers.{asAfter};
 ghost use Rattle.stages.specs.Items.{Item};
 ghost use Rattle.numbers.specs.Writing.{sessionNumbers};
-ghost use Rattle.calls.specs.Crossing.{asReply, itemDue, itemReply, leaves, listReply, asFreshReply, freshReply};
+ghost use Rattle.calls.specs.Crossing.{asReply, itemDue, itemReply, leaves, listReply, asFreshReply, sessionReply};
 use session::Due;
 use session::Outcome;
 use session::Reply;
@@ -126,7 +126,7 @@ pub fn list(
 
 // A fresh session, from the number of a way to boot and the password selected.
 pub fn fresh(mode: u8, password: &[u8], session: &mut [u32]) -> u8
-    ensures { λ r. ⌜ asFreshReply r (now (session .exit)) ≡ freshReply mode (now (password .entry)) (now (session .entry)) ⌝ }
+    ensures { λ r. ⌜ asFreshReply r (now (session .exit)) ≡ sessionReply mode (now (password .entry)) (now (session .entry)) ⌝ }
 {
     if 4 < mode {
         return 9;

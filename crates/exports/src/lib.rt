@@ -4,7 +4,7 @@ ghost use mathlib.Core.Bool.{not};
 ghost use lib.Dec.{eqb};
 ghost use Rattle.stages.specs.Items.{Item};
 ghost use Rattle.choices.specs.Calls.{asChoiceReply, choiceAnswer, asRowsReply, rowsAnswer};
-ghost use Rattle.calls.specs.Crossing.{asReply, itemReply, listReply, asFreshReply, freshReply};
+ghost use Rattle.calls.specs.Crossing.{asReply, itemReply, listReply, asFreshReply, sessionReply};
 
 // The boot choice.
 #[no_mangle]
@@ -35,7 +35,7 @@ pub extern "C" fn boot_assist_rows(mode: u8, header: u8, rows: &mut [u32]) -> u8
 // A fresh session, from the mode and the password of a serial choice.
 #[no_mangle]
 pub extern "C" fn boot_assist_session(mode: u8, password: &[u8], session: &mut [u32]) -> u8
-    ensures { λ r. ⌜ asFreshReply r (now (session .exit)) ≡ freshReply mode (now (password .entry)) (now (session .entry)) ⌝ }
+    ensures { λ r. ⌜ asFreshReply r (now (session .exit)) ≡ sessionReply mode (now (password .entry)) (now (session .entry)) ⌝ }
 {
     calls::fresh(mode, password, session)
 }

@@ -9,11 +9,11 @@ use Rattle.session.specs.declared.Due.{Due}
 use Rattle.session.specs.Answers.{faultNumber, firstDue}
 use Rattle.session.proofs.Laws.{nothing-due, fault-some}
 use Rattle.merging.specs.Running.{ran}
-use Rattle.merging.specs.Listing.{itemsOf, listFits, ListAfter, asListAfter, listRan, listAfter, ListMerged, ListClaim}
+use Rattle.merging.specs.Listing.{itemsOf, listFits, ListAfter, asListAfter, listRan, afterList, ListMerged, ListClaim}
 use Rattle.merging.proofs.Stream.{merging}
 
 module _ (session : Session) (sram kinds identifiers counts bytes answers : List ℕ) (leaves : ListAfter)
-    (e : leaves ≡ listAfter session sram kinds identifiers counts bytes answers) (eight : length (session .selected) ≡ 8) where
+    (eight : length (session .selected) ≡ 8) (e : leaves ≡ afterList session sram kinds identifiers counts bytes answers) where
   -- a call that gets 0 was refused for nothing
   answered
       : (due : Due)
@@ -21,7 +21,7 @@ module _ (session : Session) (sram kinds identifiers counts bytes answers : List
       → session ≡ freshSession (session .selected)
       → leaves .number ≡ 0
       → ListMerged (session .selected) sram (itemsOf kinds identifiers counts bytes) leaves
-  unfolding listAfter
+  unfolding afterList
   answered Due.Nothing none-due fresh zero =
       let items = itemsOf kinds identifiers counts bytes in
       record {
@@ -32,12 +32,5 @@ module _ (session : Session) (sram kinds identifiers counts bytes answers : List
       let left : leaves ≡ asListAfter (faultNumber fault) session sram answers = e ∙ rw is-due in
       absurd (fault-some fault (sym (ap (λ (l : ListAfter). l .number) left) ∙ zero))
 
-  claim : ListClaim session sram kinds identifiers counts bytes answers leaves
-  claim = record { equation = e; demand-3 = answered _ refl }
-
-pub claimed : (session : Session) (sram kinds identifiers counts bytes answers : List ℕ) (leaves : ListAfter)
-    → length (session .selected) ≡ 8
-    → leaves ≡ listAfter session sram kinds identifiers counts bytes answers
-    → ListClaim session sram kinds identifiers counts bytes answers leaves
-claimed session sram kinds identifiers counts bytes answers leaves eight e =
-    claim session sram kinds identifiers counts bytes answers leaves e eight
+  pub claimed : ListClaim session sram kinds identifiers counts bytes answers leaves
+  claimed = record { equation = e; demand-3 = answered _ refl }

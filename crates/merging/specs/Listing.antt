@@ -72,8 +72,8 @@ abbrev pub listDue : Due → Session → List ℕ → List Item → List ℕ →
 listDue Due.Nothing session sram items answers = listRan (ran session sram items)
 listDue (Due.Refused fault) session sram items answers = asListAfter (faultNumber fault) session sram answers
 
-unfoldable pub listAfter : Session → List ℕ → List ℕ → List ℕ → List ℕ → List ℕ → List ℕ → ListAfter
-listAfter session sram kinds identifiers counts bytes answers =
+unfoldable pub afterList : Session → List ℕ → List ℕ → List ℕ → List ℕ → List ℕ → List ℕ → ListAfter
+afterList session sram kinds identifiers counts bytes answers =
     listDue (firstDue session sram (listFits kinds identifiers counts (length bytes) (length answers))) session sram
     (itemsOf kinds identifiers counts bytes) answers
 
@@ -86,6 +86,6 @@ pub record ListMerged (selected sram : List ℕ) (items : List Item) (leaves : L
 pub record ListClaim
     (session : Session) (sram kinds identifiers counts bytes answers : List ℕ) (leaves : ListAfter)
     : Type 0 where
-  pub equation : leaves ≡ listAfter session sram kinds identifiers counts bytes answers
+  pub equation : leaves ≡ afterList session sram kinds identifiers counts bytes answers
   pub demand-3 : session ≡ freshSession (session .selected) → leaves .number ≡ 0
       → ListMerged (session .selected) sram (itemsOf kinds identifiers counts bytes) leaves

@@ -3,7 +3,8 @@ use Prim.Native.Nat.{ℕ}
 use mathlib.Core.Path.{_≡_}
 use mathlib.Core.List.{List, [], _∷_, _++_}
 use mathlib.Core.Bool.{true, false, cond}
-use Rattle.sram.specs.Region.{stored}
+use lib.ListN.{length}
+use Rattle.sram.specs.Region.{rightSize, stored}
 use Rattle.stages.specs.Fresh.{freshSession}
 use Rattle.session.specs.Answers.{notTaken, unchanged}
 use Rattle.stages.specs.Items.{Item}
@@ -37,3 +38,8 @@ pub record Merged (selected sram : List ℕ) (items : List Item) (whole alone : 
 abbrev pub Merging : List ℕ → List ℕ → List Item → Type 0
 Merging selected sram items =
     Merged selected sram items (ran (freshSession selected) sram items) (ran (freshSession selected) sram (streamOf items))
+
+-- "For every list of such calls": what `merging::every_list` promises
+pub record EveryList : Type 0 where
+  pub merged : (selected sram : List ℕ) (items : List Item) → length selected ≡ 8 → rightSize sram ≡ true
+      → Merging selected sram items

@@ -7,6 +7,7 @@ ghost use lib.ListN.{length, take, drop};
 ghost use Rattle.session.specs.Answers.{asAfter};
 ghost use Rattle.session.specs.Rules.{after};
 ghost use Rattle.numbers.specs.Writing.{answerNumbers};
+ghost use Rattle.merging.specs.Merging.{EveryList};
 ghost use Rattle.merging.specs.Running.{ran};
 ghost use Rattle.merging.specs.Listing.{itemOf, itemsOf, kindFits, partsFit, listFits, asListAfter, listRan, ListClaim};
 use session::Answer;
@@ -149,3 +150,8 @@ pub fn run(
         session: last,
     }
 }
+
+// Demand 3 of every list of items, also of such as no memory holds: a claim about the rules, and a function that does nothing.
+pub fn every_list()
+    ensures { λ _. ⌜ EveryList ⌝ }
+{}

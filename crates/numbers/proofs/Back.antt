@@ -10,12 +10,14 @@ use lib.Seq.{ext-getD}
 use borrow.Author.Count.{below-more, below-none}
 use mir.Syntax.{w8}
 use mir.Val.{Fits}
+use Rattle.octets.specs.Same.{same}
+use Rattle.octets.proofs.Comparing.{same-own}
 use Rattle.stages.specs.declared.Port.{Port}
 use Rattle.stages.specs.declared.Refusal.{Refusal}
 use Rattle.stages.specs.declared.Session.{Session}
 use Rattle.stages.specs.declared.Stage.{Stage}
 use Rattle.numbers.specs.Writing.{bit, sessionNumbers}
-use Rattle.numbers.specs.Reading.{eightIn, portRead, refusalRead, stageRead, sessionRead, Encoding}
+use Rattle.numbers.specs.Reading.{eightIn, portRead, refusalRead, stageRead, sessionRead, encodes, sessionIn, Encoding}
 
 -- numbers of which each is a byte
 abbrev Bytes : List ℕ → Type 0
@@ -86,6 +88,14 @@ session-back s eight selected eight′ held count =
       count = mod-eq-of-lt (count .fits) i;
     }
 
+-- numbers that are those of the session that they read as stand for it
+read-back : (s : Session) (r : List ℕ) → r ≡ sessionNumbers s → sessionRead r ≡ s → sessionIn r ≡ s
+unfolding sessionIn encodes
+read-back s r e f =
+    let own : same (sessionNumbers (sessionRead r)) r ≡ true =
+    ap (λ w. same w r) (ap sessionNumbers f ∙ sym e) ∙ same-own r in
+    rw own f
+
 -- so the numbers of a session of eight bytes each are what `session_numbers` promises
 pub encoding
     : (s : Session) {r : List ℕ}
@@ -97,4 +107,5 @@ pub encoding
     → Fits w8 (s .count)
     → Encoding s r
 encoding s e eight selected eight′ held count =
-    record { equation = e; reads-back = ap sessionRead e ∙ session-back s eight selected eight′ held count }
+    let read = ap sessionRead e ∙ session-back s eight selected eight′ held count in
+    record { equation = e; reads-back = read-back s _ e read }

@@ -19,6 +19,11 @@ same-equal (a ∷ l) (b ∷ m) e =
     let h = and-eq-true-iff (eqb a b) (same l m) .0 e in
     rw (eqb-true a b (h .0), same-equal l m (h .1))
 
+pub same-own : (l : List ℕ) → same l l ≡ true
+unfolding same
+same-own [] = refl
+same-own (a ∷ l) = rw (eq-eqb a a refl, same-own l)
+
 module _ (a b : List ℕ) (i : ℕ) where
   pub same-on
       : i < length a

@@ -1,6 +1,6 @@
 -- Where a session comes from, and what the MMU rows ask of it (01, "The words of demand 3" and "MMU rows").
 use mathlib.Core.List.{List}
-use mathlib.Core.Bool.{true, false}
+use mathlib.Core.Bool.{true, false, cond}
 use Prim.Native.Nat.{ℕ}
 use lib.ListN.{replicate}
 use Rattle.boot.specs.declared.Answer.{Answer}
@@ -10,6 +10,7 @@ use Rattle.mmu.specs.declared.Header.{Header}
 use Rattle.stages.specs.declared.Start.{Start}
 use Rattle.stages.specs.declared.Session.{Session}
 use Rattle.stages.specs.declared.Stage.{Stage}
+use Rattle.stages.specs.Sound.{sound}
 
 -- "A session is fresh when a serial choice has just given it: Waiting, with the password selected there."
 abbrev pub freshSession : List ℕ → Session
@@ -41,3 +42,7 @@ headerIn (Stage.Header port) = Header.NotAccepted
 headerIn (Stage.Data port load) = Header.Accepted (load .vle)
 headerIn (Stage.Stopped refusal) = Header.NotAccepted
 headerIn (Stage.Jumped jump) = Header.Accepted (jump .vle)
+
+-- "where no header was accepted": nor has a session that is not sound accepted one
+unfoldable pub acceptedIn : Session → Header
+acceptedIn session = cond (sound session) (headerIn (session .stage)) Header.NotAccepted

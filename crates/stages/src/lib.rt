@@ -4,7 +4,7 @@ ghost use mathlib.Core.Path.{_≡_};
 ghost use Rattle.stages.specs.Items.{Item, eightUnder, dataUnder};
 ghost use Rattle.stages.specs.Sound.{loadSound, sound};
 ghost use Rattle.stages.specs.Taking.{takes};
-ghost use Rattle.stages.specs.Fresh.{freshSession, noSession, freshIn, freshFrom, headerIn};
+ghost use Rattle.stages.specs.Fresh.{freshSession, noSession, freshIn, freshFrom, headerIn, acceptedIn};
 use boot::Answer;
 use boot::Choice;
 use boot::Mode;
@@ -199,11 +199,10 @@ pub fn fresh(choice: Choice) -> Start
     }
 }
 
-// The accepted header, as the MMU rows ask for it.
-pub fn accepted(session: Session) -> mmu::Header
-    ensures { λ r. ⌜ r ≡ headerIn (session .stage) ⌝ }
+// The accepted header of a stage.
+fn header_in(stage: Stage) -> mmu::Header
+    ensures { λ r. ⌜ r ≡ headerIn stage ⌝ }
 {
-    let stage = session.stage;
     match stage {
         Stage::Waiting => mmu::Header::NotAccepted,
         Stage::Password => mmu::Header::NotAccepted,
@@ -212,4 +211,15 @@ pub fn accepted(session: Session) -> mmu::Header
         Stage::Stopped(_) => mmu::Header::NotAccepted,
         Stage::Jumped(jump) => mmu::Header::Accepted(jump.vle),
     }
+}
+
+// The accepted header, as the MMU rows ask for it.
+pub fn accepted(session: Session) -> mmu::Header
+    ensures { λ r. ⌜ r ≡ acceptedIn session ⌝ }
+{
+    let stage = session.stage;
+    if is_sound(session) {
+        return header_in(stage);
+    }
+    mmu::Header::NotAccepted
 }

@@ -1,11 +1,11 @@
 -- The numbers that the rules give, row by row.
 use Prim.Native.Nat.{ℕ}
-use mathlib.Core.Path.{_≡_, refl}
+use mathlib.Core.Path.{_≡_, refl, sym, _∙_}
 use mathlib.Core.List.{List}
-use mathlib.Core.Bool.{Bool, true, false, cond, not, _&&_, false≢true}
+use mathlib.Core.Bool.{Bool, true, false, cond, not, _&&_, false≢true, true≢false}
 use lib.Dec.{eqb}
 use lib.ListN.{length}
-use Rattle.header.specs.declared.Header.{Header}
+use Rattle.header.specs.declared.Verdict.{Verdict}
 use Rattle.header.specs.Reading.{headerOf, announcesNone, within, verdictOf}
 use Rattle.password.specs.Passing.{passes}
 use Rattle.sram.specs.Region.{rightSize}
@@ -13,12 +13,13 @@ use Rattle.stages.specs.declared.Load.{Load}
 use Rattle.stages.specs.declared.Port.{Port}
 use Rattle.stages.specs.declared.Session.{Session}
 use Rattle.stages.specs.declared.Stage.{Stage}
-use Rattle.session.specs.Answers.{firstDue, numberOf}
+use Rattle.session.specs.declared.Moved.{Moved}
+use Rattle.session.specs.Answers.{firstDue, numberOf, echoUnder, unchanged}
 use Rattle.stages.specs.Items.{Item, wellFormed, portOf, bytesOf}
 use Rattle.stages.specs.Taking.{takes}
-use Rattle.session.specs.Rules.{received, checked, loaded, passwordMoved, headerMoved, moved, keeps, takenBy, ruled, after}
+use Rattle.session.specs.Rules.{received, checked, judged, loaded, echoes, passwordMoved, headerMoved, moved, keeps, takenBy, ruled, after}
 use Rattle.stages.specs.Sound.{sound}
-use Rattle.trials.specs.Rows.{takenNumber, numberDue}
+use Rattle.trials.specs.Rows.{wrongPassword, lengthZero, notInSram, lastStored, takenNumber, numberDue, changesNothing, stageSaid}
 
 password-number : (session : Session) (port : Port) (all : List ℕ) (a b : Bool) → eqb (length all) 8 ≡ a
     → passes all (session .selected) ≡ b
@@ -65,6 +66,65 @@ taken-number (Stage.Data port load) session item e =
 taken-number (Stage.Stopped refusal) session item e = absurd (false≢true e)
 taken-number (Stage.Jumped jump) session item e = absurd (false≢true e)
 
+-- a number of an item that is taken is none of those that change nothing
+taken-changes : (a b c d : Bool) → changesNothing (cond a 2 (cond b 3 (cond c 4 (cond d 5 0)))) ≡ false
+taken-changes true b c d = refl
+taken-changes false true c d = refl
+taken-changes false false true d = refl
+taken-changes false false false true = refl
+taken-changes false false false false = refl
+
+-- an item that is taken is echoed
+taken-echo : (stage : Stage) (port : Port) (item : Item) → takes stage item ≡ true
+    → echoes stage port (bytesOf item) ≡ echoUnder (echoes stage port (bytesOf item) .identifier) (bytesOf item)
+unfolding takes echoes
+taken-echo Stage.Waiting port item e = refl
+taken-echo Stage.Password port item e = refl
+taken-echo (Stage.Header ours) port item e = refl
+taken-echo (Stage.Data ours load) port item e = refl
+taken-echo (Stage.Stopped refusal) port item e = absurd (false≢true e)
+taken-echo (Stage.Jumped jump) port item e = absurd (false≢true e)
+
+-- where what the bytes do leaves the session
+abbrev Left : Moved → Type 0
+Left next = stageSaid (next .outcome) (next .session .stage) ≡ next .session .stage
+
+checked-left : (selected : List ℕ) (port : Port) (all : List ℕ) (b : Bool) → passes all selected ≡ b → Left (checked selected port all)
+unfolding checked
+checked-left selected port all true e = rw e
+checked-left selected port all false e = rw e
+
+judged-left : (selected : List ℕ) (port : Port) (verdict : Verdict) → Left (judged selected port verdict)
+judged-left selected port Verdict.NoBytes = refl
+judged-left selected port Verdict.Outside = refl
+judged-left selected port (Verdict.Fits header) = refl
+
+gathered-left : (full held : Moved) (b : Bool) → Left full → Left held → Left (cond b full held)
+gathered-left full held true f h = f
+gathered-left full held false f h = h
+
+loaded-left : (selected : List ℕ) (port : Port) (load : Load) (count : ℕ) (b : Bool) → eqb count (load .owed) ≡ b
+    → Left (loaded selected port load count)
+unfolding loaded
+loaded-left selected port load count true e = rw e
+loaded-left selected port load count false e = rw e
+
+moved-left : (stage : Stage) (session : Session) (port : Port) (bytes : List ℕ) → Left (moved stage session port bytes)
+unfolding moved passwordMoved headerMoved
+moved-left Stage.Waiting session port bytes =
+    let all = received session bytes in
+    gathered-left _ _ (eqb (length all) 8) (checked-left (session .selected) port all (passes all (session .selected)) refl) refl
+moved-left Stage.Password session port bytes =
+    let all = received session bytes in
+    gathered-left _ _ (eqb (length all) 8) (checked-left (session .selected) Port.Serial all (passes all (session .selected)) refl) refl
+moved-left (Stage.Header ours) session port bytes =
+    let all = received session bytes in
+    gathered-left _ _ (eqb (length all) 8) (judged-left (session .selected) ours (verdictOf all)) refl
+moved-left (Stage.Data ours load) session port bytes =
+    loaded-left (session .selected) ours load (length bytes) (eqb (length bytes) (load .owed)) refl
+moved-left (Stage.Stopped refusal) session port bytes = refl
+moved-left (Stage.Jumped jump) session port bytes = refl
+
 module _ (session : Session) (sram : List ℕ) (item : Item) where
   pub exactly : (a b c d : Bool) → rightSize sram ≡ a → sound session ≡ b → wellFormed item ≡ c → takes (session .stage) item ≡ d
       → numberOf (after session sram item .answer .outcome) ≡ numberDue session sram item
@@ -104,3 +164,42 @@ module _ (session : Session) (sram : List ℕ) (item : Item) where
   kept true true false d p q r s not-0 not-5 = rw (p, q, r)
   kept true false c d p q r s not-0 not-5 = rw (p, q)
   kept false b c d p q r s not-0 not-5 = rw p
+
+  -- the number of an item that is taken changes something
+  changes : rightSize sram ≡ true → sound session ≡ true → wellFormed item ≡ true → takes (session .stage) item ≡ true
+      → changesNothing (numberDue session sram item) ≡ false
+  changes p q r s =
+      let all = received session (bytesOf item) in
+      let stage = session .stage in
+      rw (p, q, r, s)
+      (taken-changes (wrongPassword stage session all) (lengthZero stage all) (notInSram stage all) (lastStored stage (bytesOf item)))
+
+  pub unmoved : (a b c d : Bool) → rightSize sram ≡ a → sound session ≡ b → wellFormed item ≡ c → takes (session .stage) item ≡ d
+      → changesNothing (numberDue session sram item) ≡ true
+      → after session sram item ≡ unchanged (after session sram item .answer .outcome) session sram
+  unfolding after ruled firstDue
+  unmoved true true true true p q r s e = absurd (false≢true (sym (changes p q r s) ∙ e))
+  unmoved true true true false p q r s e = rw (p, q, r, s)
+  unmoved true true false d p q r s e = rw (p, q, r)
+  unmoved true false c d p q r s e = rw (p, q)
+  unmoved false b c d p q r s e = rw p
+
+  pub echoed : (a b c d : Bool) → rightSize sram ≡ a → sound session ≡ b → wellFormed item ≡ c → takes (session .stage) item ≡ d
+      → changesNothing (numberDue session sram item) ≡ false
+      → after session sram item .answer .echo ≡ echoUnder (after session sram item .answer .echo .identifier) (bytesOf item)
+  unfolding after ruled takenBy firstDue
+  echoed true true true true p q r s e = rw (p, q, r, s) (taken-echo (session .stage) (portOf item) item s)
+  echoed true true true false p q r s e = absurd (true≢false (rw (p, q, r, s) at e))
+  echoed true true false d p q r s e = absurd (true≢false (rw (p, q, r) at e))
+  echoed true false c d p q r s e = absurd (true≢false (rw (p, q) at e))
+  echoed false b c d p q r s e = absurd (true≢false (rw p at e))
+
+  pub leaves : (a b c d : Bool) → rightSize sram ≡ a → sound session ≡ b → wellFormed item ≡ c → takes (session .stage) item ≡ d
+      → stageSaid (after session sram item .answer .outcome) (after session sram item .session .stage)
+      ≡ after session sram item .session .stage
+  unfolding after ruled takenBy firstDue
+  leaves true true true true p q r s = rw (p, q, r, s) (moved-left (session .stage) session (portOf item) (bytesOf item))
+  leaves true true true false p q r s = rw (p, q, r, s)
+  leaves true true false d p q r s = rw (p, q, r)
+  leaves true false c d p q r s = rw (p, q)
+  leaves false b c d p q r s = rw p

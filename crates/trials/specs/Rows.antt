@@ -2,15 +2,16 @@
 use Prim.Native.Nat.{ℕ}
 use mathlib.Core.Path.{_≡_}
 use mathlib.Core.List.{List}
-use mathlib.Core.Bool.{Bool, false, cond, not, _&&_}
-use lib.Dec.{eqb}
+use mathlib.Core.Bool.{Bool, true, false, cond, not, _&&_, _||_}
+use lib.Dec.{leb, eqb}
 use lib.ListN.{length}
 use Rattle.header.specs.Reading.{headerOf, announcesNone, within}
 use Rattle.password.specs.Passing.{passes}
 use Rattle.sram.specs.Region.{rightSize}
 use Rattle.stages.specs.declared.Session.{Session}
 use Rattle.stages.specs.declared.Stage.{Stage}
-use Rattle.session.specs.Answers.{numberOf}
+use Rattle.session.specs.declared.Outcome.{Outcome}
+use Rattle.session.specs.Answers.{numberOf, echoUnder, unchanged}
 use Rattle.stages.specs.Items.{Item, wellFormed, bytesOf}
 use Rattle.stages.specs.Taking.{takes}
 use Rattle.session.specs.Rules.{received, after}
@@ -74,9 +75,31 @@ numberDue session sram item =
     8)
     7
 
--- "Each is given exactly in its row's case. Only 0 and 5 may change SRAM."
+-- the numbers whose rows say "nothing changed": 1, 6, 7 and 8
+abbrev pub changesNothing : ℕ → Bool
+changesNothing number = eqb number 1 || leb 6 number
+
+-- where an answer leaves the session: 2 to 4 "session stopped", 5 where the head jumps; of the others their rows say nothing
+abbrev pub stageSaid : Outcome → Stage → Stage
+stageSaid Outcome.Taken stage = stage
+stageSaid Outcome.Ignored stage = stage
+stageSaid (Outcome.Stops refusal) stage = Stage.Stopped refusal
+stageSaid (Outcome.Jumps jump) stage = Stage.Jumped jump
+stageSaid (Outcome.Refused fault) stage = stage
+
+-- "Each is given exactly in its row's case. Only 0 and 5 may change SRAM.", and what the rows return and leave
 pub record RowsHold : Type 0 where
   pub exactly : (session : Session) (sram : List ℕ) (item : Item)
       → numberOf (after session sram item .answer .outcome) ≡ numberDue session sram item
   pub only-0-and-5 : (session : Session) (sram : List ℕ) (item : Item)
       → (numberDue session sram item ≡ 0 → ⊥) → (numberDue session sram item ≡ 5 → ⊥) → after session sram item .sram ≡ sram
+  -- "no echo; nothing changed", "number only; nothing changed"
+  pub unmoved : (session : Session) (sram : List ℕ) (item : Item) → changesNothing (numberDue session sram item) ≡ true
+      → after session sram item ≡ unchanged (after session sram item .answer .outcome) session sram
+  -- 0 and 2 to 5: "echo"
+  pub echoed : (session : Session) (sram : List ℕ) (item : Item) → changesNothing (numberDue session sram item) ≡ false
+      → after session sram item .answer .echo
+      ≡ echoUnder (after session sram item .answer .echo .identifier) (bytesOf item)
+  pub leaves : (session : Session) (sram : List ℕ) (item : Item)
+      → stageSaid (after session sram item .answer .outcome) (after session sram item .session .stage)
+      ≡ after session sram item .session .stage

@@ -4,7 +4,7 @@ use lib.ListN.{length}
 use denote.Ref.{now}
 use borrow.Author.Needs.{needs}
 use Rattle.session.proofs.Laws.{nothing-due}
-use Rattle.merging.specs.Listing.{listAfter}
+use Rattle.merging.specs.Listing.{afterList}
 use Rattle.merging.proofs.Claiming.{claimed}
 use Rattle.merging.proofs.run.Statement.{statement}
 use Rattle.merging.proofs.run.Tie as tie
@@ -28,7 +28,7 @@ same-length : tie.Need-same-length
 same-length c = search needs
 
 returns : tie.Need-returns
-unfolding listAfter
+unfolding afterList
 returns c =
     let told = c .before .before in
     let test = told .before .before in
@@ -57,7 +57,7 @@ same-length-3 : tie.Need-same-length-3
 same-length-3 c = search needs
 
 returns-2 : tie.Need-returns-2
-unfolding listAfter
+unfolding afterList
 returns-2 c =
     let ran = c .before .before .before .before in
     let told = ran .before .before .before in

@@ -14,15 +14,17 @@ is-sound-requires c κs = search needs
 
 returns : tie.Need-returns
 unfolding firstDue
-returns c = rw (sym (c .before .before .is-whole .ensures) ∙ not-true _ (c .if1 .taken))
+returns c =
+    let whole = c .before .before .is-whole in
+    rw (sym (whole .ensures) ∙ not-true (whole .result) (c .if1 .taken))
 
 returns-2 : tie.Need-returns-2
 unfolding firstDue
 returns-2 c =
     let tests = c .before .before in
     rw (
-      sym (tests .before .is-whole .ensures) ∙ not-false _ (c .before .if1 .left),
-      sym (tests .is-sound .ensures) ∙ not-true _ (c .if2 .taken),
+      sym (tests .before .is-whole .ensures) ∙ not-false (tests .before .is-whole .result) (c .before .if1 .left),
+      sym (tests .is-sound .ensures) ∙ not-true (tests .is-sound .result) (c .if2 .taken),
     )
 
 returns-3 : tie.Need-returns-3
@@ -30,8 +32,8 @@ unfolding firstDue
 returns-3 c =
     let tests = c .before .before .before in
     rw (
-      sym (tests .before .is-whole .ensures) ∙ not-false _ (c .before .before .if1 .left),
-      sym (tests .is-sound .ensures) ∙ not-false _ (c .before .if2 .left),
+      sym (tests .before .is-whole .ensures) ∙ not-false (tests .before .is-whole .result) (c .before .before .if1 .left),
+      sym (tests .is-sound .ensures) ∙ not-false (tests .is-sound .result) (c .before .if2 .left),
       not-true (tests .before .before .before .args .formed) (c .if3 .taken),
     )
 
@@ -40,8 +42,8 @@ unfolding firstDue
 returns-4 c =
     let tests = c .before .before .before in
     rw (
-      sym (tests .before .is-whole .ensures) ∙ not-false _ (c .before .before .if1 .left),
-      sym (tests .is-sound .ensures) ∙ not-false _ (c .before .if2 .left),
+      sym (tests .before .is-whole .ensures) ∙ not-false (tests .before .is-whole .result) (c .before .before .if1 .left),
+      sym (tests .is-sound .ensures) ∙ not-false (tests .is-sound .result) (c .before .if2 .left),
       not-false (tests .before .before .before .args .formed) (c .if3 .left),
     )
 

@@ -1,57 +1,22 @@
--- `stages::accepted` meets its contract: each arm is the definition's case.
+-- `stages::accepted` meets its contract: a sound session, or not.
 use borrow.Author.Needs.{needs}
+use Rattle.stages.specs.Fresh.{acceptedIn}
 use Rattle.stages.proofs.accepted.Statement.{statement}
 use Rattle.stages.proofs.accepted.Tie as tie
 
-enum-told : tie.Need-enum-told
-enum-told c = search needs
+is-sound-requires : tie.Need-is-sound-requires
+is-sound-requires c κs = search needs
 
-enum-told-2 : tie.Need-enum-told-2
-enum-told-2 c = search needs
-
-enum-told-3 : tie.Need-enum-told-3
-enum-told-3 c = search needs
-
-enum-known-stage : tie.Need-enum-known-stage
-enum-known-stage c = search needs
-
-enum-told-4 : tie.Need-enum-told-4
-enum-told-4 c = search needs
-
-enum-known-stage-2 : tie.Need-enum-known-stage-2
-enum-known-stage-2 c = search needs
+header-in-requires : tie.Need-header-in-requires
+header-in-requires c κs = search needs
 
 returns : tie.Need-returns
-returns c = rw (c .enum-told .given .1)
+unfolding acceptedIn
+returns c = rw (c .header-in .ensures, ← c .before .before .is-sound .ensures, c .before .if1 .taken)
 
 returns-2 : tie.Need-returns-2
-returns-2 c = rw (c .enum-told2 .given .1)
-
-returns-3 : tie.Need-returns-3
-returns-3 c = rw (c .enum-told3 .given .1)
-
-returns-4 : tie.Need-returns-4
-returns-4 c = rw (c .before .stage .given .1)
-
-returns-5 : tie.Need-returns-5
-returns-5 c = rw (c .enum-told4 .given .1)
-
-returns-6 : tie.Need-returns-6
-returns-6 c = rw (c .before .stage2 .given .1)
+unfolding acceptedIn
+returns-2 c = rw (← c .before .is-sound .ensures, c .if1 .left)
 
 pub accepted-spec : {M : Type 1} → statement M
-accepted-spec =
-    tie.close
-    (tie.spec
-    enum-told
-    enum-told-2
-    enum-told-3
-    enum-known-stage
-    enum-told-4
-    enum-known-stage-2
-    returns
-    returns-2
-    returns-3
-    returns-4
-    returns-5
-    returns-6)
+accepted-spec = tie.close (tie.spec is-sound-requires header-in-requires returns returns-2)

@@ -7,7 +7,7 @@ use Rattle.sram.specs.Region.{size, base, lies, aligned, stored}
 use Rattle.stages.specs.Sound.{sound}
 use Rattle.stages.specs.Taking.{takes}
 use Rattle.session.specs.Answers.{firstDue}
-use Rattle.session.specs.Rules.{after, ruled, takenBy, moved, passwordMoved, checked, headerMoved, loaded, keeps}
+use Rattle.session.specs.Rules.{after, ruled, takenBy, echoes, moved, passwordMoved, checked, headerMoved, loaded, keeps}
 use Rattle.merging.specs.Running.{ran, pickedPort, only, jumpsIn}
 use Rattle.merging.specs.Plain.{cleanBytes, dataBytes, headerBytes, frameBytes, complete}
 use Rattle.trials.specs.Lists.{listTable}
@@ -16,9 +16,9 @@ use Rattle.trials.proofs.lists_agree.Tie as tie
 
 returns : tie.Need-returns
 unfolding
-    listTable same passes size base lies aligned stored sound firstDue after ruled takes takenBy moved passwordMoved checked headerMoved verdictOf loaded keeps
+    listTable same passes size base lies aligned stored sound firstDue after ruled takes takenBy echoes moved passwordMoved checked headerMoved verdictOf loaded keeps
     ran pickedPort only jumpsIn cleanBytes dataBytes headerBytes frameBytes complete
-returns c = (refl, (refl, (refl, (refl, (refl, (refl, (refl, (refl, tt))))))))
+returns c = (refl, (refl, (refl, (refl, (refl, (refl, (refl, (refl, (refl, (refl, (refl, (refl, (refl, (refl, tt))))))))))))))
 
 pub lists-agree-spec : {M : Type 1} → statement M
 lists-agree-spec = tie.close (tie.spec returns)

@@ -1,22 +1,32 @@
 -- `trials::rows_hold` meets its contract: by the tests of the table's rows.
-use mathlib.Core.Path.{refl}
+use Prim.Native.Nat.{ℕ}
+use mathlib.Core.Path.{_≡_, refl}
+use mathlib.Core.List.{List}
+use mathlib.Core.Bool.{Bool}
 use Rattle.sram.specs.Region.{rightSize}
-use Rattle.stages.specs.Items.{wellFormed}
+use Rattle.stages.specs.declared.Session.{Session}
+use Rattle.stages.specs.Items.{Item, wellFormed}
 use Rattle.stages.specs.Taking.{takes}
 use Rattle.stages.specs.Sound.{sound}
-use Rattle.trials.proofs.Answering.{exactly, kept}
+use Rattle.trials.proofs.Answering.{exactly, kept, unmoved, echoed, leaves}
 use Rattle.trials.proofs.rows_hold.Statement.{statement}
 use Rattle.trials.proofs.rows_hold.Tie as tie
+
+-- what holds whatever the four tests say holds
+by-tests : (session : Session) (sram : List ℕ) (item : Item) {P : Type 0}
+    → ((a b c d : Bool) → rightSize sram ≡ a → sound session ≡ b → wellFormed item ≡ c → takes (session .stage) item ≡ d → P)
+    → P
+by-tests session sram item all =
+    all (rightSize sram) (sound session) (wellFormed item) (takes (session .stage) item) refl refl refl refl
 
 returns : tie.Need-returns
 returns c =
     record {
-      exactly =
-          λ session sram item. exactly session sram item (rightSize sram) (sound session) (wellFormed item) (takes (session .stage) item)
-          refl refl refl refl;
-      only-0-and-5 =
-          λ session sram item. kept session sram item (rightSize sram) (sound session) (wellFormed item) (takes (session .stage) item)
-          refl refl refl refl;
+      exactly = λ session sram item. by-tests session sram item (exactly session sram item);
+      only-0-and-5 = λ session sram item. by-tests session sram item (kept session sram item);
+      unmoved = λ session sram item. by-tests session sram item (unmoved session sram item);
+      echoed = λ session sram item. by-tests session sram item (echoed session sram item);
+      leaves = λ session sram item. by-tests session sram item (leaves session sram item);
     }
 
 pub rows-hold-spec : {M : Type 1} → statement M
