@@ -7,7 +7,6 @@ use mathlib.Core.Bool.{Bool, true, false, cond}
 use borrow.Author.Tests.{eqb-true}
 use lib.Dec.{eqb}
 use lib.ListN.{length}
-use Rattle.stages.specs.declared.Session.{Session}
 use Rattle.session.specs.declared.Due.{Due}
 use Rattle.session.specs.declared.Reply.{Reply}
 use Rattle.session.specs.Answers.{After, asAfter, firstDue}

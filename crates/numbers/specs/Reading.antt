@@ -75,7 +75,7 @@ sessionRead numbers =
 unfoldable pub encodes : List ℕ → Bool
 encodes numbers = same (sessionNumbers (sessionRead numbers)) numbers
 
--- numbers of no session are those of none that is sound: one that waits and holds a byte stands in its place
+-- numbers of no session stand for one that is not sound: it waits and holds a byte
 abbrev pub unsoundSession : Session
 unsoundSession = record { selected = replicate 8 0; stage = Stage.Waiting; held = replicate 8 0; count = 1 }
 

@@ -1,5 +1,4 @@
 -- `calls::list` meets its contract: a refused list, or the list's session written.
-use mathlib.Core.Path.{sym, _∙_}
 use denote.Ref.{now}
 use borrow.Author.Tests.{eq-eqb, ne-eqb}
 use borrow.Author.Needs.{needs}
