@@ -7,7 +7,7 @@ use lib.ListN.{length}
 use Rattle.octets.specs.Read.{firstEight}
 use Rattle.stages.specs.declared.Session.{Session}
 use Rattle.session.specs.declared.Due.{Due}
-use Rattle.session.specs.Answers.{After, faultNumber, firstDue, numberOf}
+use Rattle.session.specs.Answers.{After, faultNumber, firstDue}
 use Rattle.stages.specs.declared.Start.{Start}
 use Rattle.stages.specs.Fresh.{freshIn}
 use Rattle.stages.specs.Items.{Item, wellFormed}
@@ -38,7 +38,7 @@ itemDue session sram formed room = dueNumber (firstDue session sram formed) room
 -- what an item leaves
 abbrev pub leaves : After → Reply
 leaves next =
-    asReply (numberOf (next .answer .outcome)) (sessionNumbers (next .session)) (next .sram) (answerNumbers (next .answer))
+    asReply (next .number) (sessionNumbers (next .session)) (next .sram) (answerNumbers (next .answer))
 
 -- one item, with the session that the numbers are; a call that is refused so changes nothing
 abbrev pub itemLeaves : ℕ → List ℕ → List ℕ → Item → List ℕ → Reply

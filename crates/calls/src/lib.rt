@@ -66,7 +66,7 @@ pub fn frame(
         ⌝ }
 {
     let read = numbers::read_session(session);
-    let formed = (identifier <= 2047) & (data.len() <= 8);
+    let formed = stages::is_formed(identifier, data);
     let due = item_due(read, sram, formed, answer.len());
     if due != 0 {
         return due;

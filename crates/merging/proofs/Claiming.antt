@@ -10,7 +10,7 @@ use Rattle.session.specs.Answers.{faultNumber, firstDue}
 use Rattle.session.proofs.Laws.{nothing-due, fault-some}
 use Rattle.merging.specs.Running.{ran}
 use Rattle.merging.specs.Listing.{itemsOf, listFits, ListAfter, asListAfter, listRan, afterList, ListMerged, ListClaim}
-use Rattle.merging.proofs.Stream.{merging}
+use Rattle.merging.proofs.Stream.{demand-three}
 
 module _ (session : Session) (sram kinds identifiers counts bytes answers : List ℕ) (leaves : ListAfter)
     (eight : length (session .selected) ≡ 8) (e : leaves ≡ afterList session sram kinds identifiers counts bytes answers) where
@@ -26,7 +26,7 @@ module _ (session : Session) (sram kinds identifiers counts bytes answers : List
       let items = itemsOf kinds identifiers counts bytes in
       record {
         is-run = e ∙ rw none-due (ap (λ (s : Session). listRan (ran s sram items)) fresh);
-        merging = merging (session .selected) sram items eight (nothing-due session sram _ none-due .0 .right);
+        claim = demand-three (session .selected) sram items eight (nothing-due session sram _ none-due .0 .right);
       }
   answered (Due.Refused fault) is-due fresh zero =
       let left : leaves ≡ asListAfter (faultNumber fault) session sram answers = e ∙ rw is-due in

@@ -150,12 +150,12 @@ module _ (selected sram plain : List ℕ) (eight : length selected ≡ 8) (right
     same : session .selected ≡ selected
     before : List ℕ
     shape : plain ≡ before ++ (take (session .count) (session .held) ++ rest stage items)
-    known : Known stage before m
+    knows : Known stage before m
 
   -- after a call that took its item
   record Onward (jumps : List Jump) (next : Moved) (m : List ℕ) (items : List Item) : Type 0 where
     made : jumpsOf (next .outcome) ++ due (next .session .stage) ≡ jumps
-    stands : Stands (next .session .stage) (next .session) m items
+    standing : Stands (next .session .stage) (next .session) m items
 
   -- after the last call
   record Done (jumps : List Jump) (run : Run) : Type 0 where
@@ -231,8 +231,8 @@ module _ (selected sram plain : List ℕ) (eight : length selected ≡ 8) (right
   module _ (session : Session) (m : List ℕ) (items : List Item) (same : session .selected ≡ selected) where
     enters-on : (stage : Stage) (outcome : Outcome) (before : List ℕ) → jumpsOf outcome ++ due stage ≡ jumpsAsked
         → plain ≡ before ++ rest stage items → Known stage before m → Onward jumpsAsked (enters (session .selected) stage outcome) m items
-    enters-on stage outcome before made shape known =
-        record { made = made; stands = record { same = same; before = before; shape = shape; known = known } }
+    enters-on stage outcome before made shape knows =
+        record { made = made; standing = record { same = same; before = before; shape = shape; knows = knows } }
 
     stops-on : (refusal : Refusal) → complete selected plain ≡ false
         → Onward jumpsAsked (enters (session .selected) (Stage.Stopped refusal) (Outcome.Stops refusal)) m items
@@ -305,13 +305,13 @@ module _ (selected sram plain : List ℕ) (eight : length selected ≡ 8) (right
         → (b ≡ false → plain ≡ before ++ (all ++ rest stage items))
         → (length all ≡ 8 → Onward jumpsAsked full m items)
         → Onward jumpsAsked (cond (eqb (length all) 8) full (holds session stage all)) m items
-    gathered stage before all full true e none-made known shape eighth = rw e (eighth (eqb-true (length all) 8 e))
-    gathered stage before all full false e none-made known shape eighth =
+    gathered stage before all full true e none-made knows shape eighth = rw e (eighth (eqb-true (length all) 8 e))
+    gathered stage before all full false e none-made knows shape eighth =
         let held = take-append-seam all (drop (length all) (session .held)) in
         rw e
         (record {
           made = none-made;
-          stands = record { same = same; before = before; shape = shape refl ∙ rw held; known = known };
+          standing = record { same = same; before = before; shape = shape refl ∙ rw held; knows = knows };
         })
 
     -- password bytes by a port, and header bytes; only serial's come one by one
@@ -320,21 +320,21 @@ module _ (selected sram plain : List ℕ) (eight : length selected ≡ 8) (right
         → (eqb (length all) 8 ≡ false → port ≡ Port.Serial)
         → Onward jumpsAsked (passwordMoved session port all) m items
     unfolding passwordMoved
-    password-on port before all known shape serial =
-        gathered Stage.Password before all (checked (session .selected) port all) (eqb (length all) 8) refl refl known
+    password-on port before all knows shape serial =
+        gathered Stage.Password before all (checked (session .selected) port all) (eqb (length all) 8) refl refl knows
         (λ e. rw (serial e) at shape)
-        (checked-on port all (passes all (session .selected)) refl (known .1) (rw (known .0) at shape))
+        (checked-on port all (passes all (session .selected)) refl (knows .1) (rw (knows .0) at shape))
 
     header-on : (port : Port) (before all : List ℕ) → Known (Stage.Header port) before m
         → plain ≡ before ++ (all ++ rest (Stage.Data port (loadFrom (headerOf all))) items)
         → (eqb (length all) 8 ≡ false → port ≡ Port.Serial)
         → Onward jumpsAsked (headerMoved session port all) m items
     unfolding headerMoved
-    header-on port before all known shape serial =
+    header-on port before all knows shape serial =
         let header = headerOf all in
-        gathered (Stage.Header port) before all (judged (session .selected) port (verdictOf all)) (eqb (length all) 8) refl refl known
+        gathered (Stage.Header port) before all (judged (session .selected) port (verdictOf all)) (eqb (length all) 8) refl refl knows
         (λ e. rw (serial e) (rw (serial e) at shape))
-        (judged-on port all (announcesNone header) (within header) refl refl (known .1) (known .2) (rw (known .0) at shape))
+        (judged-on port all (announcesNone header) (within header) refl refl (knows .1) (knows .2) (rw (knows .0) at shape))
 
   -- One call.
 
@@ -357,23 +357,23 @@ module _ (selected sram plain : List ℕ) (eight : length selected ≡ 8) (right
   unfolding moved keeps takes pickedPort frameBytes headerBytes
   moved-on Stage.Waiting session m (Item.Frame identifier frame) items fine e s =
       let alone = received-all session frame (eqb-true (session .count) 0 fine) in
-      password-on session m items (s .same) Port.Can (s .before) (received session frame) (s .known)
+      password-on session m items (s .same) Port.Can (s .before) (received session frame) (s .knows)
       (joined s (headerBytes items) (rw (e, e)))
       (at-once session frame alone (eight-long 0x011 identifier frame e))
   moved-on Stage.Waiting session m (Item.Byte byte faulty) items fine e s =
-      password-on session m items (s .same) Port.Serial (s .before) (received session (byte ∷ [])) (s .known)
+      password-on session m items (s .same) Port.Serial (s .before) (received session (byte ∷ [])) (s .knows)
       (joined s (cleanBytes items) (rw e (clean-taken (Item.Byte byte faulty) items e))) (λ f. refl)
   moved-on Stage.Password session m item items fine e s =
-      password-on session m items (s .same) Port.Serial (s .before) (received session (bytesOf item)) (s .known)
+      password-on session m items (s .same) Port.Serial (s .before) (received session (bytesOf item)) (s .knows)
       (joined s (cleanBytes items) (clean-taken item items e)) (λ f. refl)
   moved-on (Stage.Header Port.Can) session m (Item.Frame identifier frame) items fine e s =
       let alone = received-all session frame (eqb-true (session .count) 0 fine) in
-      header-on session m items (s .same) Port.Can (s .before) (received session frame) (s .known)
+      header-on session m items (s .same) Port.Can (s .before) (received session frame) (s .knows)
       (joined s (dataBytes (headerOf (received session frame) .length) items) (rw (e, alone)))
       (at-once session frame alone (eight-long 0x012 identifier frame e))
   moved-on (Stage.Header Port.Can) session m (Item.Byte byte faulty) items fine e s = absurd (false≢true e)
   moved-on (Stage.Header Port.Serial) session m item items fine e s =
-      header-on session m items (s .same) Port.Serial (s .before) (received session (bytesOf item)) (s .known)
+      header-on session m items (s .same) Port.Serial (s .before) (received session (bytesOf item)) (s .knows)
       (joined s (cleanBytes items) (clean-taken item items e)) (λ f. refl)
   moved-on (Stage.Data port load) session m item items fine e s =
       let bytes = bytesOf item in
@@ -382,7 +382,7 @@ module _ (selected sram plain : List ℕ) (eight : length selected ≡ 8) (right
       let later = rest (Stage.Data port (advanced load (length bytes))) items in
       loaded-on session (stored m (load .next) bytes) items (s .same) port load (s .before ++ bytes) bytes
       (eqb (length bytes) (load .owed)) refl
-      (further bytes (s .known) (taken-inside port load item (both .1) e))
+      (further bytes (s .knows) (taken-inside port load item (both .1) e))
       (joined s later (data-taken port load item items e) ∙ rw (alone, append-assoc))
   moved-on (Stage.Stopped refusal) session m item items fine e s = absurd (false≢true e)
   moved-on (Stage.Jumped jump) session m item items fine e s = absurd (false≢true e)
@@ -410,25 +410,25 @@ module _ (selected sram plain : List ℕ) (eight : length selected ≡ 8) (right
   data-short {load = load} {session = session} {m = m} s none-left fine =
       let both = and-eq-true-iff (eqb (session .count) 0) (loadSound load) .0 fine in
       unfinished session m
-      (bytes-missing (take (session .count) (session .held) ++ []) (s .known) (rw none-left at (s .shape))
+      (bytes-missing (take (session .count) (session .held) ++ []) (s .knows) (rw none-left at (s .shape))
       (omega (arith, held-few session, eqb-true (session .count) 0 (both .0), load-fits load (both .1) .some-owed)))
 
   ended : (stage : Stage) (session : Session) (m : List ℕ) → soundIn stage (session .count) ≡ true → Stands stage session m []
       → Done (due stage) (ran session m [])
   unfolding ran jumpsIn pickedPort cleanBytes headerBytes dataBytes
   ended Stage.Waiting session m fine s =
-      too-short s refl (rw (s .known .0) (omega arith)) (omega (arith, eqb-true (session .count) 0 fine))
+      too-short s refl (rw (s .knows .0) (omega arith)) (omega (arith, eqb-true (session .count) 0 fine))
   ended Stage.Password session m fine s =
       let both = and-eq-true-iff (leb 1 (session .count)) (leb (session .count) 7) .0 fine in
-      too-short s refl (rw (s .known .0) (omega arith)) (leb-true (session .count) 7 (both .1))
+      too-short s refl (rw (s .knows .0) (omega arith)) (leb-true (session .count) 7 (both .1))
   ended (Stage.Header Port.Can) session m fine s =
-      too-short s refl (rw (s .known .0) (omega arith)) (omega (arith, eqb-true (session .count) 0 fine))
+      too-short s refl (rw (s .knows .0) (omega arith)) (omega (arith, eqb-true (session .count) 0 fine))
   ended (Stage.Header Port.Serial) session m fine s =
-      too-short s refl (rw (s .known .0) (omega arith)) (leb-true (session .count) 7 fine)
+      too-short s refl (rw (s .knows .0) (omega arith)) (leb-true (session .count) 7 fine)
   ended (Stage.Data Port.Can load) session m fine s = data-short s refl fine
   ended (Stage.Data Port.Serial load) session m fine s = data-short s refl fine
-  ended (Stage.Stopped refusal) session m fine s = unfinished session m (s .known)
-  ended (Stage.Jumped jump) session m fine s = record { made = refl; loads = λ c. s .known }
+  ended (Stage.Stopped refusal) session m fine s = unfinished session m (s .knows)
+  ended (Stage.Jumped jump) session m fine s = record { made = refl; loads = λ c. s .knows }
 
   -- All calls: each takes its item or passes it by.
 
@@ -442,13 +442,13 @@ module _ (selected sram plain : List ℕ) (eight : length selected ≡ 8) (right
   run-next session m item items true e ok s later =
       let next = moved (session .stage) session (portOf item) (bytesOf item) in
       let on = moved-on (session .stage) session m item items (ok .fine) e s in
-      let end = later (next .session) (keeps (session .stage) m (bytesOf item)) (kept session m item ok e) (on .stands) in
+      let end = later (next .session) (keeps (session .stage) m (bytesOf item)) (kept session m item ok e) (on .standing) in
       let taken = after-taken session m item ok e in
       record { made = rw (taken, end .made) (on .made); loads = rw taken (end .loads) }
   run-next session m item items false e ok s later =
       let passed = after-passed session m item ok e in
       let left = rw (rest-passed (session .stage) item items e) at (s .shape) in
-      let end = later session m ok (record { same = s .same; before = s .before; shape = left; known = s .known }) in
+      let end = later session m ok (record { same = s .same; before = s .before; shape = left; knows = s .knows }) in
       record { made = rw (passed, no-jump item) (end .made); loads = rw passed (end .loads) }
 
   run-ends : (items : List Item) (session : Session) (m : List ℕ) → Accepted session m → Stands (session .stage) session m items
@@ -463,5 +463,5 @@ module _ (selected sram : List ℕ) (eight : length selected ≡ 8) (ok : Accept
   forward items =
       let plain = plainFrom (pickedPort items) items in
       let fresh = freshSession selected in
-      let end = run-ends selected sram plain eight (ok .right) items fresh sram ok (record { same = refl; before = []; shape = refl; known = (refl, refl) }) in
+      let end = run-ends selected sram plain eight (ok .right) items fresh sram ok (record { same = refl; before = []; shape = refl; knows = (refl, refl) }) in
       record { jumps = end .made; loads = end .loads }

@@ -170,13 +170,13 @@ along-first selected sram item items true e ok rest =
 along-first selected sram item items false e ok rest =
     rw e (along-passed (inStream (pickedPort items)) (freshSession selected) sram item items ok e rest)
 
-pub along : (selected sram : List ℕ) (items : List Item) → Accepted (freshSession selected) sram
+pub passed-along : (selected sram : List ℕ) (items : List Item) → Accepted (freshSession selected) sram
     → Along (inStream (pickedPort items)) (freshSession selected) sram items
-along selected sram [] ok = tt
-along selected sram (item ∷ items) ok =
-    along-first selected sram item items (opens item) refl ok (along selected sram items ok)
+passed-along selected sram [] ok = tt
+passed-along selected sram (item ∷ items) ok =
+    along-first selected sram item items (opens item) refl ok (passed-along selected sram items ok)
 
--- So the list and what is wanted of it run alike,
+-- So the list and what is wanted of it run run-alike,
 
 pub record Alike (wanted : Item → Bool) (session : Session) (sram : List ℕ) (items : List Item) : Type 0 where
   pub sessions : ran session sram items .session ≡ ran session sram (only wanted items) .session
@@ -203,13 +203,13 @@ alike-next wanted session sram item items false e passed rest =
       answers = rw (e, passed e) (rest′ .answers);
     }
 
-pub alike : (wanted : Item → Bool) (session : Session) (sram : List ℕ) (items : List Item) → Along wanted session sram items
+pub run-alike : (wanted : Item → Bool) (session : Session) (sram : List ℕ) (items : List Item) → Along wanted session sram items
     → Alike wanted session sram items
 unfolding ran only answersTo
-alike wanted session sram [] h = record { sessions = refl; srams = refl; answers = refl }
-alike wanted session sram (item ∷ items) h =
+run-alike wanted session sram [] h = record { sessions = refl; srams = refl; answers = refl }
+run-alike wanted session sram (item ∷ items) h =
     alike-next wanted session sram item items (wanted item) refl (h .0)
-    (alike wanted (after session sram item .session) (after session sram item .sram) items (h .1))
+    (run-alike wanted (after session sram item .session) (after session sram item .sram) items (h .1))
 
 -- and an item that is not wanted is passed by wherever it stands.
 pub others : (wanted : Item → Bool) (session : Session) (sram : List ℕ) (before : List Item) (item : Item) (later : List Item)

@@ -17,7 +17,7 @@ use Rattle.session.proofs.Laws.{Accepted}
 use Rattle.merging.specs.Running.{pickedPort, inStream, only}
 use Rattle.merging.specs.Plain.{cleanBytes, dataBytes, headerBytes, frameBytes, plainFrom}
 use Rattle.merging.specs.Merging.{Merging}
-use Rattle.merging.proofs.Ports.{Along, along, alike, others}
+use Rattle.merging.proofs.Ports.{Along, passed-along, run-alike, others}
 use Rattle.merging.proofs.Forward.{forward}
 
 clean-stream : (items : List Item) → cleanBytes (only (inStream (some Port.Serial)) items) ≡ cleanBytes items
@@ -78,13 +78,13 @@ plain-stream (some Port.Can) items = password-stream items
 plain-stream (some Port.Serial) items = clean-stream items
 
 -- demand 3
-pub merging : (selected sram : List ℕ) (items : List Item) → length selected ≡ 8 → rightSize sram ≡ true → Merging selected sram items
+pub demand-three : (selected sram : List ℕ) (items : List Item) → length selected ≡ 8 → rightSize sram ≡ true → Merging selected sram items
 unfolding sound
-merging selected sram items eight right =
+demand-three selected sram items eight right =
     let ok : Accepted (freshSession selected) sram = record { right = right; fine = refl } in
     let wanted = inStream (pickedPort items) in
-    let all = along selected sram items ok in
-    let same = alike wanted (freshSession selected) sram items all in
+    let all = passed-along selected sram items ok in
+    let same = run-alike wanted (freshSession selected) sram items all in
     let plain = plain-stream (pickedPort items) items in
     let end = rw (sym plain) at (forward selected sram eight ok items) in
     record {

@@ -80,7 +80,7 @@ afterList session sram kinds identifiers counts bytes answers =
 -- demand 3 of a list that was run from a fresh session: what the call left is the run of the whole list, and the claim holds of it
 pub record ListMerged (selected sram : List ℕ) (items : List Item) (leaves : ListAfter) : Type 0 where
   pub is-run : leaves ≡ listRan (ran (freshSession selected) sram items)
-  pub merging : Merging selected sram items
+  pub claim : Merging selected sram items
 
 -- what `merging::run` promises of its number, session, SRAM and answers
 pub record ListClaim

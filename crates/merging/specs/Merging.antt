@@ -41,5 +41,5 @@ Merging selected sram items =
 
 -- "For every list of such calls": what `merging::every_list` promises
 pub record EveryList : Type 0 where
-  pub merged : (selected sram : List ℕ) (items : List Item) → length selected ≡ 8 → rightSize sram ≡ true
+  pub holds : (selected sram : List ℕ) (items : List Item) → length selected ≡ 8 → rightSize sram ≡ true
       → Merging selected sram items

@@ -12,13 +12,13 @@ use Rattle.stages.specs.declared.Port.{Port}
 use Rattle.stages.specs.declared.Session.{Session}
 use Rattle.stages.specs.declared.Stage.{Stage}
 use Rattle.stages.specs.Items.{Item, wellFormed, bytesOf}
-use Rattle.session.specs.declared.Due.{Due}
-use Rattle.session.specs.Answers.{firstDue}
-use Rattle.session.proofs.Laws.{nothing-due}
-use Rattle.session.specs.Room.{Room}
 use Rattle.stages.specs.Sound.{loadSound, soundIn, sound}
 use Rattle.stages.specs.Taking.{takes}
 use Rattle.stages.proofs.Laws.{eight-long, taken-inside}
+use Rattle.session.specs.declared.Due.{Due}
+use Rattle.session.specs.Answers.{firstDue}
+use Rattle.session.specs.Room.{Room}
+use Rattle.session.proofs.Laws.{nothing-due}
 
 taken-room : (stage : Stage) (count : ℕ) (item : Item) → soundIn stage count ≡ true → takes stage item ≡ true
     → Room stage count (length (bytesOf item))

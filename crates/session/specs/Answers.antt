@@ -61,14 +61,21 @@ echoUnder identifier bytes =
 abbrev pub noEcho : Echo
 noEcho = record { identifier = 0; length = 0; bytes = replicate 8 0 }
 
--- a call: its answer, and the session and SRAM as it leaves them
+-- a call: its number and its answer, and the session and SRAM as it leaves them
 pub record After : Type 0 where
+  pub number : ℕ
   pub answer : Answer
   pub session : Session
   pub sram : List ℕ
 
 abbrev pub asAfter : Reply → List ℕ → After
-asAfter reply sram = record { answer = reply .answer; session = reply .session; sram = sram }
+asAfter reply sram =
+    record {
+      number = numberOf (reply .answer .outcome);
+      answer = reply .answer;
+      session = reply .session;
+      sram = sram;
+    }
 
 -- an item that is not taken: 6 if that is due, and otherwise 1
 abbrev pub notTaken : Item → Outcome

@@ -22,7 +22,7 @@ use Rattle.session.specs.declared.Due.{Due}
 use Rattle.session.specs.declared.Echo.{Echo}
 use Rattle.session.specs.declared.Moved.{Moved}
 use Rattle.session.specs.declared.Outcome.{Outcome}
-use Rattle.session.specs.Answers.{After, firstDue, underPort, echoUnder, noEcho, unchanged}
+use Rattle.session.specs.Answers.{After, asAfter, firstDue, underPort, echoUnder, noEcho, unchanged}
 
 -- What the bytes taken do. It is the same for both ports.
 
@@ -125,7 +125,7 @@ echoes (Stage.Jumped jump) port bytes = noEcho
 -- "Every taken item is echoed, also the one that completes a wrong password or a refused header."
 abbrev pub echoed : Moved → Echo → List ℕ → After
 echoed next echo sram =
-    record { answer = record { outcome = next .outcome; echo = echo }; session = next .session; sram = sram }
+    asAfter (record { answer = record { outcome = next .outcome; echo = echo }; session = next .session }) sram
 
 unfoldable pub takenBy : Session → List ℕ → Port → List ℕ → After
 takenBy session sram port bytes =

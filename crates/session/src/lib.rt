@@ -343,7 +343,7 @@ pub fn first_due(session: Session, sram: &[u8], formed: bool) -> Due
 pub fn frame(session: Session, sram: &mut [u8], identifier: u32, data: &[u8]) -> Reply
     ensures { λ r. ⌜ asAfter r (now (sram .exit)) ≡ after session (now (sram .entry)) (Item.Frame identifier (now («data» .entry))) ⌝ }
 {
-    let due = first_due(session, sram, (identifier <= 2047) & (data.len() <= 8));
+    let due = first_due(session, sram, stages::is_formed(identifier, data));
     if let Due::Refused(fault) = due {
         return leave(session, Outcome::Refused(fault));
     }

@@ -1,7 +1,7 @@
 // The stages of a serial session (01, "A serial session"): what a session holds, when it is sound, which items each stage takes, and where a
 // session comes from.
 ghost use mathlib.Core.Path.{_≡_};
-ghost use Rattle.stages.specs.Items.{Item, eightUnder, dataUnder};
+ghost use Rattle.stages.specs.Items.{Item, wellFormed, eightUnder, dataUnder};
 ghost use Rattle.stages.specs.Sound.{loadSound, sound};
 ghost use Rattle.stages.specs.Taking.{takes};
 ghost use Rattle.stages.specs.Fresh.{freshSession, noSession, freshIn, freshFrom, headerIn, acceptedIn};
@@ -92,6 +92,13 @@ pub fn is_sound(session: Session) -> bool
         Stage::Stopped(_) => count == 0,
         Stage::Jumped(_) => count == 0,
     }
+}
+
+// Whether a frame is not refused for its form.
+pub fn is_formed(identifier: u32, frame: &[u8]) -> bool
+    ensures { λ r. ⌜ r ≡ wellFormed (Item.Frame identifier (now (frame .entry))) ⌝ }
+{
+    (identifier <= 2047) & (frame.len() <= 8)
 }
 
 // Whether a frame has the identifier wanted and 8 bytes.

@@ -127,7 +127,7 @@ moved-left (Stage.Jumped jump) session port bytes = refl
 
 module _ (session : Session) (sram : List ℕ) (item : Item) where
   pub exactly : (a b c d : Bool) → rightSize sram ≡ a → sound session ≡ b → wellFormed item ≡ c → takes (session .stage) item ≡ d
-      → numberOf (after session sram item .answer .outcome) ≡ numberDue session sram item
+      → after session sram item .number ≡ numberDue session sram item
   unfolding after ruled takenBy firstDue
   exactly true true true true p q r s = rw (p, q, r, s) (taken-number (session .stage) session item s)
   exactly true true true false p q r s = rw (p, q, r, s)

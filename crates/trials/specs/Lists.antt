@@ -27,13 +27,15 @@ abbrev echoesOf : Run → List (List ℕ)
 echoesOf run =
     map (λ (answer : Answer). answer .echo .identifier ∷ take (answer .echo .length) (answer .echo .bytes)) (run .answers)
 
+-- a missing echo
 abbrev nothing : List ℕ
 nothing = 0 ∷ []
 
--- by CAN, start 0x40000003, VLE, 3 bytes
+-- start 0x40000003, VLE, 3 bytes
 abbrev vleHeader : List ℕ
 vleHeader = 0x40 ∷ 0x00 ∷ 0x00 ∷ 0x03 ∷ 0x80 ∷ 0x00 ∷ 0x00 ∷ 0x03 ∷ []
 
+-- by CAN, with that header
 abbrev jumping : List Item
 jumping =
     Item.Byte 0xFE true
@@ -54,12 +56,17 @@ jumping =
 abbrev clean : List ℕ → List Item
 clean bytes = map (λ (byte : ℕ). Item.Byte byte false) bytes
 
--- by serial, start 0x40000004, 2 bytes announced, of which the second comes faulty
+-- the rest of the public password, and a header: start 0x40000004, 2 bytes
+abbrev opened : List Item
+opened =
+    clean (0xED ∷ 0xFA ∷ 0xCE ∷ 0xCA ∷ 0xFE ∷ 0xBE ∷ 0xEF ∷ [])
+    ++ clean (0x40 ∷ 0x00 ∷ 0x00 ∷ 0x04 ∷ 0x00 ∷ 0x00 ∷ 0x00 ∷ 0x02 ∷ [])
+
+-- by serial: of the 2 bytes announced the second comes faulty
 abbrev lacking : List Item
 lacking =
     (Item.Byte 0xFE true ∷ Item.Frame 0x013 (0x77 ∷ []) ∷ Item.Byte 0xFE false ∷ Item.Frame 0x011 publicPassword ∷ [])
-    ++ clean (0xED ∷ 0xFA ∷ 0xCE ∷ 0xCA ∷ 0xFE ∷ 0xBE ∷ 0xEF ∷ [])
-    ++ clean (0x40 ∷ 0x00 ∷ 0x00 ∷ 0x04 ∷ 0x00 ∷ 0x00 ∷ 0x00 ∷ 0x02 ∷ [])
+    ++ opened
     ++ (Item.Byte 0xAA false ∷ Item.Frame 0x011 (replicate 9 0) ∷ Item.Byte 0xBB true ∷ [])
 
 -- no opening: a faulty byte, and frames that open nothing
@@ -102,8 +109,7 @@ listTable =
     (Stage.Data Port.Serial (record { start = record { 0 = 0x40000004 }; vle = false; next = 0x40000005; owed = 1 }))
     ∷ trial (streamOf lacking)
     ((Item.Byte 0xFE true ∷ Item.Byte 0xFE false ∷ [])
-    ++ clean (0xED ∷ 0xFA ∷ 0xCE ∷ 0xCA ∷ 0xFE ∷ 0xBE ∷ 0xEF ∷ [])
-    ++ clean (0x40 ∷ 0x00 ∷ 0x00 ∷ 0x04 ∷ 0x00 ∷ 0x00 ∷ 0x00 ∷ 0x02 ∷ [])
+    ++ opened
     ++ (Item.Byte 0xAA false ∷ Item.Byte 0xBB true ∷ []))
     ∷ trial (numbersOf (runOf silent)) (1 ∷ 1 ∷ 1 ∷ [])
     ∷ trial (streamOf silent) []

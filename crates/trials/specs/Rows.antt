@@ -11,7 +11,7 @@ use Rattle.sram.specs.Region.{rightSize}
 use Rattle.stages.specs.declared.Session.{Session}
 use Rattle.stages.specs.declared.Stage.{Stage}
 use Rattle.session.specs.declared.Outcome.{Outcome}
-use Rattle.session.specs.Answers.{numberOf, echoUnder, unchanged}
+use Rattle.session.specs.Answers.{echoUnder, unchanged}
 use Rattle.stages.specs.Items.{Item, wellFormed, bytesOf}
 use Rattle.stages.specs.Taking.{takes}
 use Rattle.session.specs.Rules.{received, after}
@@ -90,7 +90,7 @@ stageSaid (Outcome.Refused fault) stage = stage
 -- "Each is given exactly in its row's case. Only 0 and 5 may change SRAM.", and what the rows return and leave
 pub record RowsHold : Type 0 where
   pub exactly : (session : Session) (sram : List ℕ) (item : Item)
-      → numberOf (after session sram item .answer .outcome) ≡ numberDue session sram item
+      → after session sram item .number ≡ numberDue session sram item
   pub only-0-and-5 : (session : Session) (sram : List ℕ) (item : Item)
       → (numberDue session sram item ≡ 0 → ⊥) → (numberDue session sram item ≡ 5 → ⊥) → after session sram item .sram ≡ sram
   -- "no echo; nothing changed", "number only; nothing changed"

@@ -14,7 +14,7 @@ use Rattle.boot.specs.Table.{publicPassword}
 use Rattle.stages.specs.declared.Port.{Port}
 use Rattle.stages.specs.declared.Session.{Session}
 use Rattle.stages.specs.declared.Stage.{Stage}
-use Rattle.session.specs.Answers.{After, numberOf}
+use Rattle.session.specs.Answers.{After}
 use Rattle.stages.specs.Fresh.{freshSession}
 use Rattle.stages.specs.Items.{Item}
 use Rattle.session.specs.Rules.{after}
@@ -43,7 +43,7 @@ abbrev stageAfter : List ℕ → Stage
 stageAfter header = headed header .session .stage
 
 abbrev numberAfter : List ℕ → ℕ
-numberAfter header = numberOf (headed header .answer .outcome)
+numberAfter header = headed header .number
 
 -- the data stage of an accepted header
 abbrev accepted : ℕ → Bool → ℕ → Stage
@@ -55,7 +55,7 @@ abbrev halfWord0000 : List ℕ
 halfWord0000 = 0xFE ∷ 0xED ∷ 0x00 ∷ 0x00 ∷ 0xCA ∷ 0xFE ∷ 0xBE ∷ 0xEF ∷ []
 
 abbrev numberOpening : List ℕ → ℕ
-numberOpening password = numberOf (after (freshSession password) zeroes (Item.Frame 0x011 password) .answer .outcome)
+numberOpening password = after (freshSession password) zeroes (Item.Frame 0x011 password) .number
 
 -- a flash that ends with the last place's 8 bytes: zeroes, and zeroes but for 0x5A as the second byte of one place
 abbrev blank : List ℕ

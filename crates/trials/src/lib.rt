@@ -8,7 +8,7 @@ pub fn cases_agree()
     ensures { λ _. ⌜ Agree table ⌝ }
 {}
 
-// The same for two lists of calls, one that jumps and one that does not.
+// The same for lists of calls: one that jumps, one that does not, and one with no opening.
 pub fn lists_agree()
     ensures { λ _. ⌜ Agree listTable ⌝ }
 {}

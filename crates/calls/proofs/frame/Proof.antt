@@ -12,6 +12,9 @@ use Rattle.calls.proofs.frame.Tie as tie
 read-session-requires : tie.Need-read-session-requires
 read-session-requires c κs = search needs
 
+is-formed-requires : tie.Need-is-formed-requires
+is-formed-requires c κs = search needs
+
 item-due-requires : tie.Need-item-due-requires
 item-due-requires c κs = search needs
 
@@ -24,7 +27,13 @@ same-length-2 c = search needs
 returns : tie.Need-returns
 unfolding itemReply
 returns c =
-    rw (← c .before .before .before .read-session .ensures, ← c .before .item-due .ensures, ne-eqb _ _ (c .if1 .taken))
+    let formed = c .before .before .before in
+    rw (
+      ← formed .before .read-session .ensures,
+      ← formed .is-formed .ensures,
+      ← c .before .item-due .ensures,
+      ne-eqb _ _ (c .if1 .taken),
+    )
 
 frame-requires : tie.Need-frame-requires
 frame-requires c κs = search needs
@@ -32,7 +41,7 @@ frame-requires c κs = search needs
 put-reply-requires : tie.Need-put-reply-requires
 put-reply-requires c κs =
     let test = c .before .before .before .before .before .before in
-    let read = test .before .before .before in
+    let read = test .before .before .before .before in
     let a = read .before .before .before .before .before .before .args in
     item-room (now (a .session)) (now (a .sram)) _ (length (now (a .answer)))
     (rw (read .read-session .ensures) at (sym (test .before .item-due .ensures) ∙ test .if1 .left))
@@ -52,8 +61,13 @@ returns-2 c =
     let put = c .before .before .before .before in
     let handed = put .before .before .before .before .before in
     let test = handed .before .before in
-    let read = test .before .before .before .read-session .ensures in
-    rw (← read, ← test .before .item-due .ensures, eq-eqb _ _ (test .if1 .left))
+    let formed = test .before .before .before in
+    rw (
+      ← formed .before .read-session .ensures,
+      ← formed .is-formed .ensures,
+      ← test .before .item-due .ensures,
+      eq-eqb _ _ (test .if1 .left),
+    )
     (reply-leaves (handed .frame .result) _ _ _ _ _ (put .put-reply .ensures) (handed .frame .ensures))
 
 pub frame-spec : {M : Type 1} → statement M
@@ -61,6 +75,7 @@ frame-spec =
     tie.close
     (tie.spec
     read-session-requires
+    is-formed-requires
     item-due-requires
     same-length
     same-length-2

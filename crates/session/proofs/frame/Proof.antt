@@ -8,6 +8,9 @@ use Rattle.session.proofs.Taking.{taken-ready}
 use Rattle.session.proofs.frame.Statement.{statement}
 use Rattle.session.proofs.frame.Tie as tie
 
+is-formed-requires : tie.Need-is-formed-requires
+is-formed-requires c κs = search needs
+
 first-due-requires : tie.Need-first-due-requires
 first-due-requires c κs = search needs
 
@@ -24,7 +27,8 @@ returns : tie.Need-returns
 unfolding after
 returns c =
     let told = c .before .before in
-    rw (c .leave .ensures, ← told .before .before .first-due .ensures, told .due .given .1)
+    let due = told .before .before in
+    rw (c .leave .ensures, ← due .before .is-formed .ensures, ← due .first-due .ensures, told .due .given .1)
 
 enum-told : tie.Need-enum-told
 enum-told c = search needs
@@ -37,9 +41,9 @@ take-requires c κs =
     let test = c .before in
     let told = test .before .before in
     let due = told .before .before in
-    let a = due .before .before .before .before .args in
+    let a = due .before .before .before .before .before .args in
     taken-ready (a .session) (now (a .sram)) (Item.Frame (a .identifier) (now (a .«data»)))
-    (sym (due .first-due .ensures) ∙ told .enum-told .given .1)
+    (rw (due .before .is-formed .ensures) at (sym (due .first-due .ensures) ∙ told .enum-told .given .1))
     (sym (test .before .takes-frame .ensures) ∙ test .if1 .taken)
 
 same-length-2 : tie.Need-same-length-2
@@ -50,9 +54,11 @@ unfolding after ruled
 returns-2 c =
     let test = c .before .before .before .before in
     let told = test .before .before in
+    let due = told .before .before in
     rw (
       c .before .before .take .ensures,
-      ← told .before .before .first-due .ensures,
+      ← due .before .is-formed .ensures,
+      ← due .first-due .ensures,
       told .enum-told .given .1,
       ← test .before .takes-frame .ensures,
       test .if1 .taken,
@@ -69,9 +75,11 @@ unfolding after ruled
 returns-3 c =
     let test = c .before in
     let told = test .before .before in
+    let due = told .before .before in
     rw (
       c .leave2 .ensures,
-      ← told .before .before .first-due .ensures,
+      ← due .before .is-formed .ensures,
+      ← due .first-due .ensures,
       told .enum-told .given .1,
       ← test .before .takes-frame .ensures,
       test .if1 .left,
@@ -81,6 +89,7 @@ pub frame-spec : {M : Type 1} → statement M
 frame-spec =
     tie.close
     (tie.spec
+    is-formed-requires
     first-due-requires
     enum-known-due
     leave-requires
