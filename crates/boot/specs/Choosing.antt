@@ -10,7 +10,6 @@ use Rattle.boot.specs.declared.Entered.{Entered}
 use Rattle.boot.specs.declared.Mode.{Mode}
 use Rattle.boot.specs.declared.Look.{Look}
 use Rattle.boot.specs.declared.Row.{Row}
-use Rattle.boot.specs.declared.Boot.{Boot}
 use Rattle.boot.specs.declared.Answer.{Answer}
 use Rattle.boot.specs.declared.Choice.{Choice}
 use Rattle.boot.specs.Places.{flashPlaces, externalPlaces, walk, watchdogAt, bus16At}

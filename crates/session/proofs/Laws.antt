@@ -9,7 +9,6 @@ use lib.Dec.{leb, eqb}
 use lib.ListN.{length, take, length-append, length-take}
 use native.Mathlib.Nat.{min-le-left}
 use Rattle.octets.specs.Read.{wordAt}
-use Rattle.header.specs.declared.Header.{Header}
 use Rattle.header.specs.Reading.{headerOf, announcesNone, within, verdictOf}
 use Rattle.password.specs.Passing.{passes}
 use Rattle.sram.specs.Region.{size, rightSize, stored}
