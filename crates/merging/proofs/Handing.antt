@@ -17,11 +17,11 @@ use Rattle.session.specs.declared.Outcome.{Outcome}
 use Rattle.session.specs.declared.Reply.{Reply}
 use Rattle.stages.specs.declared.Session.{Session}
 use Rattle.session.specs.Answers.{asAfter}
-use Rattle.stages.specs.Items.{Item}
+use Rattle.stages.specs.Items.{Item, itemOf}
 use Rattle.session.specs.Rules.{after}
 use Rattle.numbers.specs.Writing.{jumpNumbers, answerNumbers}
 use Rattle.merging.specs.Running.{ran}
-use Rattle.merging.specs.Listing.{itemOf, itemsOf, kindFits, partsFit, listFits, answerRows, asListAfter, listRan}
+use Rattle.merging.specs.Listing.{itemsOf, kindFits, partsFit, listFits, answerRows, asListAfter, listRan}
 
 module _ (kinds counts : List ℕ) (i : ℕ) (h : i < length kinds) where
   pub parts-next : (left : ℕ) → partsFit (drop i kinds) (drop i counts) left

@@ -2,23 +2,18 @@
 use Prim.Native.Nat.{ℕ, _*_, _-_}
 use mathlib.Core.Path.{_≡_}
 use mathlib.Core.List.{List, [], _∷_, _++_}
-use mathlib.Core.Bool.{Bool, cond, _&&_, _||_}
+use mathlib.Core.Bool.{Bool, _&&_, _||_}
 use lib.Dec.{leb, eqb}
 use lib.ListN.{length, take, drop, getD}
-use Rattle.octets.specs.Read.{byteAt}
 use Rattle.session.specs.declared.Answer.{Answer}
 use Rattle.session.specs.declared.Due.{Due}
 use Rattle.stages.specs.declared.Session.{Session}
 use Rattle.stages.specs.Fresh.{freshSession}
-use Rattle.stages.specs.Items.{Item}
+use Rattle.stages.specs.Items.{Item, itemOf}
 use Rattle.session.specs.Answers.{faultNumber, firstDue}
 use Rattle.numbers.specs.Writing.{answerNumbers}
 use Rattle.merging.specs.Running.{Run, ran}
 use Rattle.merging.specs.Merging.{Merging}
-
--- kind 1 is a CAN frame, 2 a clean and 3 a faulty serial byte (01, "The truck's capture file")
-unfoldable pub itemOf : ℕ → ℕ → List ℕ → Item
-itemOf kind identifier part = cond (eqb kind 1) (Item.Frame identifier part) (Item.Byte (byteAt part 0) (eqb kind 3))
 
 -- the items in order: each has a kind, an identifier and so many of the bytes as its count says
 unfoldable pub itemsOf : List ℕ → List ℕ → List ℕ → List ℕ → List Item

@@ -4,12 +4,10 @@ ghost use Prim.Native.Nat.{_+_, _*_, _≤_};
 ghost use mathlib.Core.Bool.{true};
 ghost use mathlib.Core.List.{_++_};
 ghost use lib.ListN.{length, take, drop};
-ghost use Rattle.session.specs.Answers.{asAfter};
-ghost use Rattle.session.specs.Rules.{after};
 ghost use Rattle.numbers.specs.Writing.{answerNumbers};
 ghost use Rattle.merging.specs.Merging.{EveryList};
 ghost use Rattle.merging.specs.Running.{ran};
-ghost use Rattle.merging.specs.Listing.{itemOf, itemsOf, kindFits, partsFit, listFits, asListAfter, listRan, ListClaim};
+ghost use Rattle.merging.specs.Listing.{itemsOf, kindFits, partsFit, listFits, asListAfter, listRan, ListClaim};
 use session::Answer;
 use session::Due;
 use session::Outcome;
@@ -20,16 +18,6 @@ use stages::Session;
 pub struct ListReply {
     pub number: u8,
     pub session: Session,
-}
-
-// Hands in one item of a list.
-fn hand_in(session: Session, sram: &mut [u8], kind: u8, identifier: u32, part: &[u8]) -> Reply
-    ensures { λ r. ⌜ asAfter r (now (sram .exit)) ≡ after session (now (sram .entry)) (itemOf kind identifier (now (part .entry))) ⌝ }
-{
-    if kind == 1 {
-        return session::frame(session, sram, identifier, part);
-    }
-    session::byte(session, sram, octets::byte(part, 0), kind == 3)
 }
 
 // Whether an item of a kind can have so many bytes.
@@ -110,7 +98,7 @@ fn run_items(
     let mut i: usize = 0;
     while i < kinds.len() {
         let end = at + counts[i] as usize;
-        let reply = hand_in(current, sram, kinds[i], identifiers[i], &bytes[at..end]);
+        let reply = session::hand_in(current, sram, kinds[i], identifiers[i], &bytes[at..end]);
         let answer = reply.answer;
         put_answer(answers, i, answer);
         let next = reply.session;

@@ -5,7 +5,7 @@ use native.Mathlib.Omega.{arith}
 use mathlib.Core.Path.{_≡_, sym, ap, _∙_}
 use mathlib.Core.List.{List, _++_}
 use lib.ListN.{length, take, drop, getD, set, length-append, length-drop}
-use lib.Seq.{take-suc, drop-cons, set-at, append-snoc, length-take-le, take-all}
+use lib.Seq.{take-suc, drop-cons, set-at, append-snoc, length-take-le, take-all, getD-append-add, getD-drop}
 
 -- after i turns
 abbrev pub Copied : List ℕ → List ℕ → ℕ → List ℕ → Type 0
@@ -28,3 +28,16 @@ kept bytes list i out e h k =
 pub done : (bytes list : List ℕ) (i : ℕ) (out : List ℕ) → Copied bytes list i out → i ≡ length bytes
     → out ≡ bytes ++ drop (length bytes) list
 done bytes list i out e all = e ∙ rw (all, take-all (length bytes) bytes (omega arith))
+
+-- where the bytes copied are those from a place of the list on, the next of them still stands
+pub ahead : (list : List ℕ) (from i : ℕ) (out : List ℕ) → Copied (drop from list) list i out → i < length (drop from list)
+    → getD out (from + i) 0 ≡ getD (drop from list) i 0
+ahead list from i out e h =
+    let first = take i (drop from list) in
+    let many : length first ≡ i = length-take-le i (drop from list) (omega arith) in
+    let swap : from + i ≡ length first + from = omega (arith, many) in
+    let back : i + from ≡ from + i = omega arith in
+    rw (e, swap) (getD-append-add first (drop i list) from 0)
+    ∙ getD-drop i list from 0
+    ∙ ap (λ (n : ℕ). getD list n 0) back
+    ∙ sym (getD-drop from list i 0)

@@ -1,9 +1,30 @@
-// Reads of a byte and of a big-endian number that answer for every place of every slice, and a write of several bytes.
+// Reads of a byte and of big-endian numbers that answer for every place of every slice; writes and moves of several bytes; and
+// differences and least numbers, which answer for all numbers.
 ghost use mathlib.Core.Path.{_≡_};
-ghost use Prim.Native.Nat.{_+_, _*_, _≤_};
+ghost use Prim.Native.Nat.{_+_, _-_, _*_, _≤_, min};
 ghost use Rattle.octets.specs.Read.{byteAt, halfAt, wordAt, firstEight};
 ghost use Rattle.octets.specs.Write.{over, filled};
-ghost use lib.ListN.{length};
+ghost use lib.ListN.{length, drop};
+
+// The difference of two numbers, or 0 where the second is larger.
+pub fn difference(a: usize, b: usize) -> usize
+    ensures { λ r. ⌜ r ≡ a - b ⌝ }
+{
+    if b <= a {
+        return a - b;
+    }
+    0
+}
+
+// The smaller of two numbers.
+pub fn least(a: usize, b: usize) -> usize
+    ensures { λ r. ⌜ r ≡ min a b ⌝ }
+{
+    if b < a {
+        return b;
+    }
+    a
+}
 
 // The byte at a place, or 0 past the end.
 pub fn byte(s: &[u8], at: usize) -> u8
@@ -81,7 +102,19 @@ pub fn fill(out: &mut [u8], bytes: &[u8])
     }
 }
 
-// The same for 32-bit numbers.
+// Moves the bytes from a place on to the start, and returns how many they are. The places behind them keep theirs.
+pub fn slide(s: &mut [u8], from: usize) -> usize
+    ensures { λ r. ⌜ r ≡ length (now (s .entry)) - from ⌝ }
+    ensures { λ _. ⌜ now (s .exit) ≡ over (drop from (now (s .entry))) (now (s .entry)) ⌝ }
+{
+    let moved = difference(s.len(), from);
+    for i in 0..moved {
+        s[i] = s[from + i];
+    }
+    moved
+}
+
+// `copy` for 32-bit numbers.
 fn copy_words(out: &mut [u32], words: &[u32])
     requires { ⌜ length (now words) ≤ length (now out) ⌝ }
     ensures { λ _. ⌜ now (out .exit) ≡ over (now (words .entry)) (now (out .entry)) ⌝ }

@@ -1,12 +1,14 @@
 // The serial session (01, "A serial session"): one call for each CAN frame and one for each serial byte, from a session and SRAM to the
 // answer, the session and SRAM after it.
 ghost use mathlib.Core.Path.{_≡_};
-ghost use Prim.Native.Nat.{_+_, _≤_};
-ghost use mathlib.Core.Bool.{true};
+ghost use Prim.Native.Nat.{_+_, _≤_, min};
+ghost use mathlib.Core.Bool.{true, cond};
+ghost use lib.Dec.{eqb};
 ghost use lib.ListN.{length};
 ghost use Rattle.octets.specs.Write.{over};
 ghost use Rattle.sram.specs.Region.{rightSize};
-ghost use Rattle.stages.specs.Items.{Item};
+ghost use Rattle.stages.specs.Items.{Item, itemOf, wellFormed};
+ghost use Rattle.stages.specs.Taking.{takes};
 ghost use Rattle.session.specs.Answers.{firstDue, underPort, echoUnder, noEcho, asAfter, left};
 ghost use Rattle.session.specs.Rules.{received, enters, checked, judged, loaded, passwordMoved, headerMoved, moved, keeps, echoes, takenBy, after};
 ghost use Rattle.session.specs.Room.{LoadRoom, Room};
@@ -252,8 +254,7 @@ fn echo_under(identifier: u32, bytes: &[u8]) -> Echo
     requires { ⌜ length (now bytes) ≤ 8 ⌝ }
     ensures { λ r. ⌜ r ≡ echoUnder identifier (now (bytes .entry)) ⌝ }
 {
-    let mut all = NOTHING;
-    octets::fill(&mut all[..], bytes);
+    let all = octets::first_eight(bytes);
     Echo {
         identifier: identifier,
         length: bytes.len() as u8,
@@ -339,33 +340,85 @@ pub fn first_due(session: Session, sram: &[u8], formed: bool) -> Due
     Due::Nothing
 }
 
-// One CAN frame.
-pub fn frame(session: Session, sram: &mut [u8], identifier: u32, data: &[u8]) -> Reply
-    ensures { λ r. ⌜ asAfter r (now (sram .exit)) ≡ after session (now (sram .entry)) (Item.Frame identifier (now («data» .entry))) ⌝ }
+// Whether an item of a kind is well formed.
+fn is_item_formed(kind: u8, identifier: u32, bytes: &[u8]) -> bool
+    ensures { λ r. ⌜ r ≡ wellFormed (itemOf kind identifier (now (bytes .entry))) ⌝ }
 {
-    let due = first_due(session, sram, stages::is_formed(identifier, data));
+    if kind == 1 {
+        return stages::is_formed(identifier, bytes);
+    }
+    true
+}
+
+// Whether a stage takes an item of a kind.
+fn takes_item(stage: Stage, kind: u8, identifier: u32, bytes: &[u8]) -> bool
+    ensures { λ r. ⌜ r ≡ takes stage (itemOf kind identifier (now (bytes .entry))) ⌝ }
+{
+    if kind == 1 {
+        return stages::takes_frame(stage, identifier, bytes);
+    }
+    let clean = (kind == 2) & (bytes.len() == 1);
+    stages::takes_byte(stage, octets::byte(bytes, 0), !clean)
+}
+
+// The port of a kind.
+fn port_of(kind: u8) -> Port
+    ensures { λ r. ⌜ r ≡ cond (eqb kind 1) Port.Can Port.Serial ⌝ }
+{
+    if kind == 1 {
+        return Port::Can;
+    }
+    Port::Serial
+}
+
+// How many bytes an item of a kind has.
+fn count_of(kind: u8, count: usize) -> usize
+    ensures { λ r. ⌜ r ≡ cond (eqb kind 1) (min count 8) 1 ⌝ }
+{
+    if kind == 1 {
+        return octets::least(count, 8);
+    }
+    1
+}
+
+// One item by its kind: 1 is a CAN frame, 2 a clean serial byte; 3 is a faulty one, and so is what is none of these.
+pub fn hand_in(session: Session, sram: &mut [u8], kind: u8, identifier: u32, bytes: &[u8]) -> Reply
+    ensures { λ r. ⌜ asAfter r (now (sram .exit)) ≡ after session (now (sram .entry)) (itemOf kind identifier (now (bytes .entry))) ⌝ }
+{
+    let due = first_due(session, sram, is_item_formed(kind, identifier, bytes));
     if let Due::Refused(fault) = due {
         return leave(session, Outcome::Refused(fault));
     }
     let stage = session.stage;
-    if stages::takes_frame(stage, identifier, data) {
-        return take(session, sram, Port::Can, data);
+    if takes_item(stage, kind, identifier, bytes) {
+        let count = count_of(kind, bytes.len());
+        let item = octets::first_eight(bytes);
+        return take(session, sram, port_of(kind), &item[0..count]);
     }
     leave(session, Outcome::Ignored)
+}
+
+// One CAN frame.
+pub fn frame(session: Session, sram: &mut [u8], identifier: u32, data: &[u8]) -> Reply
+    ensures { λ r. ⌜ asAfter r (now (sram .exit)) ≡ after session (now (sram .entry)) (Item.Frame identifier (now («data» .entry))) ⌝ }
+{
+    hand_in(session, sram, 1, identifier, data)
+}
+
+// The kind of a serial byte.
+fn byte_kind(faulty: bool) -> u8
+    ensures { λ r. ⌜ r ≡ cond faulty 3 2 ⌝ }
+{
+    if faulty {
+        return 3;
+    }
+    2
 }
 
 // One serial byte.
 pub fn byte(session: Session, sram: &mut [u8], value: u8, faulty: bool) -> Reply
     ensures { λ r. ⌜ asAfter r (now (sram .exit)) ≡ after session (now (sram .entry)) (Item.Byte value faulty) ⌝ }
 {
-    let due = first_due(session, sram, true);
-    if let Due::Refused(fault) = due {
-        return leave(session, Outcome::Refused(fault));
-    }
-    let stage = session.stage;
-    if stages::takes_byte(stage, value, faulty) {
-        let item = [value];
-        return take(session, sram, Port::Serial, &item[..]);
-    }
-    leave(session, Outcome::Ignored)
+    let item = [value];
+    hand_in(session, sram, byte_kind(faulty), 0, &item[..])
 }

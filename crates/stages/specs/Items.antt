@@ -1,9 +1,10 @@
 -- Items (01, "A serial session").
 use Prim.Native.Nat.{ℕ}
 use mathlib.Core.List.{List, [], _∷_}
-use mathlib.Core.Bool.{Bool, true, not, _&&_}
+use mathlib.Core.Bool.{Bool, true, cond, not, _&&_}
 use lib.ListN.{length}
 use lib.Dec.{leb, eqb}
+use Rattle.octets.specs.Read.{byteAt}
 use Rattle.stages.specs.declared.Port.{Port}
 
 -- "Items: a CAN frame (identifier 0 to 2,047, 0 to 8 data bytes), or a serial byte marked clean or faulty." The identifier and the data of
@@ -11,6 +12,17 @@ use Rattle.stages.specs.declared.Port.{Port}
 pub data Item : Type 0 where
   Frame : ℕ → List ℕ → Item
   Byte : ℕ → Bool → Item
+
+-- an item by its kind, as a capture has it (01, "The truck's capture file"): kind 1 is a CAN frame, kind 2 with its one byte a clean serial
+-- byte; kind 3 is a faulty one, and so is all else
+abbrev pub cleanKind : ℕ → ℕ → Bool
+cleanKind kind count = eqb kind 2 && eqb count 1
+
+unfoldable pub itemOf : ℕ → ℕ → List ℕ → Item
+itemOf kind identifier bytes =
+    cond (eqb kind 1)
+    (Item.Frame identifier bytes)
+    (Item.Byte (byteAt bytes 0) (not (cleanKind kind (length bytes))))
 
 -- not refused for its form; number 6: "identifier above 2,047 or count above 8"
 abbrev pub wellFormed : Item → Bool

@@ -1,100 +1,36 @@
--- `session::byte` meets its contract: what is due is left, or the byte taken.
-use mathlib.Core.Path.{sym, _∙_}
-use denote.Ref.{now}
+-- `session::byte` meets its contract: a serial byte is an item of kind 2 or 3.
 use borrow.Author.Needs.{needs}
-use Rattle.stages.specs.Items.{Item}
-use Rattle.session.specs.Rules.{after, ruled}
-use Rattle.session.proofs.Taking.{taken-ready}
+use mathlib.Core.Path.{ap, _∙_}
+use mathlib.Core.List.{[], _∷_}
+use Prim.Native.Nat.{ℕ}
+use denote.Ref.{now}
+use Rattle.stages.specs.Items.{itemOf}
 use Rattle.session.proofs.byte.Statement.{statement}
 use Rattle.session.proofs.byte.Tie as tie
+use Rattle.session.specs.Rules.{after}
+use Rattle.session.proofs.Handing.{byte-item}
 
-first-due-requires : tie.Need-first-due-requires
-first-due-requires c κs = search needs
+byte-kind-requires : tie.Need-byte-kind-requires
+byte-kind-requires c κs = search needs
 
-enum-known-due : tie.Need-enum-known-due
-enum-known-due c = search needs
+slice-aggregate-hand-in : tie.Need-slice-aggregate-hand-in
+slice-aggregate-hand-in c = search needs
 
-leave-requires : tie.Need-leave-requires
-leave-requires c κs = search needs
+hand-in-requires : tie.Need-hand-in-requires
+hand-in-requires c κs = search needs
 
 same-length : tie.Need-same-length
 same-length c = search needs
 
 returns : tie.Need-returns
-unfolding after
 returns c =
-    let told = c .before .before in
-    rw (c .leave .ensures, ← told .before .before .first-due .ensures, told .due .given .1)
-
-enum-told : tie.Need-enum-told
-enum-told c = search needs
-
-takes-byte-requires : tie.Need-takes-byte-requires
-takes-byte-requires c κs = search needs
-
-slice-aggregate-take : tie.Need-slice-aggregate-take
-slice-aggregate-take c = search needs
-
-take-requires : tie.Need-take-requires
-take-requires c κs =
-    let test = c .before .before in
-    let told = test .before .before in
-    let due = told .before .before in
-    let a = due .before .before .before .args in
-    taken-ready (a .session) (now (a .sram)) (Item.Byte (a .value) (a .faulty))
-    (sym (due .first-due .ensures) ∙ told .enum-told .given .1)
-    (sym (test .before .takes-byte .ensures) ∙ test .if1 .taken)
-
-same-length-2 : tie.Need-same-length-2
-same-length-2 c = search needs
-
-returns-2 : tie.Need-returns-2
-unfolding after ruled
-returns-2 c =
-    let test = c .before .before .before .before .before in
-    let told = test .before .before in
-    rw (
-      c .before .before .take .ensures,
-      ← told .before .before .first-due .ensures,
-      told .enum-told .given .1,
-      ← test .before .takes-byte .ensures,
-      test .if1 .taken,
-    )
-
-leave-requires-2 : tie.Need-leave-requires-2
-leave-requires-2 c κs = search needs
-
-same-length-3 : tie.Need-same-length-3
-same-length-3 c = search needs
-
-returns-3 : tie.Need-returns-3
-unfolding after ruled
-returns-3 c =
-    let test = c .before in
-    let told = test .before .before in
-    rw (
-      c .leave2 .ensures,
-      ← told .before .before .first-due .ensures,
-      told .enum-told .given .1,
-      ← test .before .takes-byte .ensures,
-      test .if1 .left,
-    )
+    let kind = c .before .before .before .before in
+    let a = kind .before .before .before .args in
+    c .before .before .hand-in .ensures
+    ∙ ap (λ (k : ℕ). after (a .session) (now (a .sram)) (itemOf k 0 (a .value ∷ []))) (kind .byte-kind .ensures)
+    ∙ ap (after (a .session) (now (a .sram))) (byte-item (a .value) (a .faulty))
 
 pub byte-spec : {M : Type 1} → statement M
 byte-spec =
     tie.close
-    (tie.spec
-    first-due-requires
-    enum-known-due
-    leave-requires
-    same-length
-    returns
-    enum-told
-    takes-byte-requires
-    slice-aggregate-take
-    take-requires
-    same-length-2
-    returns-2
-    leave-requires-2
-    same-length-3
-    returns-3)
+    (tie.spec byte-kind-requires slice-aggregate-hand-in hand-in-requires same-length returns)
