@@ -19,6 +19,7 @@
  *       here also an output of another length (but for the session of an item or a list: 8, and the answers of a
  *       list: 6), a mode or header that is none of the numbers below, and for a fresh session a mode that is not
  *       serial or a password that is not 8 bytes
+ *   10  the capture's record is not whole or breaks its rules, or the starting place is past the end
  *   11  rows of external boot were asked for, whatever the header and the output's length
  */
 #ifndef BOOT_ASSIST_H
@@ -187,13 +188,19 @@ uint8_t boot_assist_byte(uint32_t *session, size_t session_len,
                          uint8_t byte, uint8_t faulty,
                          uint32_t *answer, size_t answer_len);
 
-/* What an item of a list is, as in a capture file. */
-enum boot_assist_kind { BOOT_ASSIST_KIND_FRAME = 1, BOOT_ASSIST_KIND_CLEAN = 2, BOOT_ASSIST_KIND_FAULTY = 3 };
+/* What an item of a list, or a record of a capture file, is. The end mark and the reset are a capture's alone. */
+enum boot_assist_kind {
+    BOOT_ASSIST_KIND_END = 0,
+    BOOT_ASSIST_KIND_FRAME = 1,
+    BOOT_ASSIST_KIND_CLEAN = 2,
+    BOOT_ASSIST_KIND_FAULTY = 3,
+    BOOT_ASSIST_KIND_RESET = 4
+};
 
 /*
  * A list of items, one call after another.
  *
- * kinds         a boot_assist_kind for each item
+ * kinds         a boot_assist_kind for each item: a frame, a clean or a faulty byte
  * identifiers   a number for each item: of a frame its identifier; of a serial byte it is not looked at
  * counts        a number for each item: how many of the bytes are its own, of a serial byte 1
  * bytes         the bytes of all items, one item's behind another's
@@ -209,6 +216,29 @@ uint8_t boot_assist_list(uint32_t *session, size_t session_len,
                          const uint32_t *counts, size_t counts_len,
                          const uint8_t *bytes, size_t bytes_len,
                          uint32_t *answers, size_t answers_len);
+
+/* The numbers of a record. */
+enum boot_assist_record {
+    BOOT_ASSIST_RECORD_KIND = 0,       /* a boot_assist_kind */
+    BOOT_ASSIST_RECORD_NEXT = 1,       /* where the next record starts; at the end mark, the end */
+    BOOT_ASSIST_RECORD_BODY_START = 2, /* where the body starts in the capture */
+    BOOT_ASSIST_RECORD_BODY_COUNT = 3, /* how many bytes the body has */
+    BOOT_ASSIST_RECORD_LENGTH = 4
+};
+
+/*
+ * The record at a place of a capture file. The body of a frame is two identifier bytes, the higher first, and its data;
+ * that of a serial byte is the byte; a reset and the end mark have none.
+ *
+ * capture       the capture, of any length
+ * at            a place in it, any number: 0, and then the next place that the last call wrote
+ * fields        BOOT_ASSIST_RECORD_LENGTH numbers, written in the order of boot_assist_record
+ *
+ * Returns 0; or 10, then 9 for fields of another length.
+ */
+uint8_t boot_assist_read(const uint8_t *capture, size_t capture_len,
+                         size_t at,
+                         size_t *fields, size_t fields_len);
 
 #ifdef __cplusplus
 }

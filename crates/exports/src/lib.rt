@@ -4,6 +4,7 @@ ghost use mathlib.Core.Bool.{not};
 ghost use lib.Dec.{eqb};
 ghost use Rattle.stages.specs.Items.{Item};
 ghost use Rattle.choices.specs.Calls.{asChoiceReply, choiceAnswer, asRowsReply, rowsAnswer};
+ghost use Rattle.capture.specs.Located.{asLocated, locatedAt};
 ghost use Rattle.calls.specs.Crossing.{asReply, itemReply, listReply, asFreshReply, sessionReply};
 
 // The boot choice.
@@ -91,4 +92,12 @@ pub extern "C" fn boot_assist_list(
         ⌝ }
 {
     calls::list(session, sram, kinds, identifiers, counts, bytes, answers)
+}
+
+// The record at a place of a capture.
+#[no_mangle]
+pub extern "C" fn boot_assist_read(capture: &[u8], at: usize, fields: &mut [usize]) -> u8
+    ensures { λ r. ⌜ asLocated r (now (fields .exit)) ≡ locatedAt (now (capture .entry)) at (now (fields .entry)) ⌝ }
+{
+    capture::locate(capture, at, fields)
 }

@@ -1,0 +1,3 @@
+pub mod Laws
+pub mod Going
+pub mod Turning

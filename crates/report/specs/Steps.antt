@@ -1,0 +1,99 @@
+-- The text for a capture (01, "The truck's capture file").
+use Prim.Native.Nat.{ℕ, zero, suc, _+_}
+use mathlib.Core.List.{List, [], _++_}
+use mathlib.Core.Bool.{Bool, true, false, cond}
+use lib.ListN.{length, take, drop, replicate}
+use lib.Dec.{eqb}
+use Rattle.octets.specs.Read.{halfAt}
+use Rattle.boot.specs.Table.{publicPassword}
+use Rattle.sram.specs.Region.{size}
+use Rattle.stages.specs.declared.Session.{Session}
+use Rattle.stages.specs.Fresh.{freshSession}
+use Rattle.stages.specs.Items.{Item, itemOf}
+use Rattle.session.specs.declared.Echo.{Echo}
+use Rattle.session.specs.declared.Outcome.{Outcome}
+use Rattle.session.specs.Answers.{After, unchanged}
+use Rattle.session.specs.Rules.{after}
+use Rattle.capture.specs.Records.{Read, found}
+use Rattle.text.specs.Lines.{recordLine, lastLine}
+
+-- what the program keeps from record to record: the number of the next record, the session and SRAM
+pub record Kept : Type 0 where
+  pub number : ℕ
+  pub session : Session
+  pub sram : List ℕ
+
+-- "with zeroed SRAM and the public password"; "its number from 1"
+abbrev pub beginning : Kept
+beginning = record { number = 1; session = freshSession publicPassword; sram = replicate size 0 }
+
+-- "Kind 1, CAN: two identifier bytes, 0 to 8 data bytes": how many bytes of a body stand before an item's own
+abbrev pub leading : ℕ → ℕ
+leading kind = cond (eqb kind 1) 2 0
+
+abbrev pub itemIn : ℕ → List ℕ → Item
+itemIn kind body = itemOf kind (halfAt body 0) (drop (leading kind) body)
+
+-- "A reset is a new boot choice; SRAM keeps its bytes"; "Reset prints 0 and "-""
+abbrev pub resets : List ℕ → After
+resets sram = unchanged Outcome.Taken (freshSession publicPassword) sram
+
+-- what a record does: its number and its answer, and the session and SRAM after it
+unfoldable pub says : Session → List ℕ → ℕ → List ℕ → After
+says session sram kind body =
+    cond (eqb kind 4) (resets sram) (after session sram (itemIn kind body))
+
+-- "the echoed data"
+abbrev pub echoed : Echo → List ℕ
+echoed echo = take (echo .length) (echo .bytes)
+
+-- a record's part of the text, how many bytes of the capture it was, whether the text ends with it, and what is kept then
+pub record Step : Type 0 where
+  pub text : List ℕ
+  pub taken : ℕ
+  pub over : Bool
+  pub kept : Kept
+
+abbrev pub recorded : Kept → ℕ → After → Step
+recorded kept taken call =
+    record {
+      text = recordLine (kept .number) (call .number) (echoed (call .answer .echo));
+      taken = taken;
+      over = false;
+      kept = record { number = kept .number + 1; session = call .session; sram = call .sram };
+    }
+
+-- "then one last line"
+abbrev pub closing : Kept → List ℕ
+closing kept = lastLine (kept .session .stage)
+
+abbrev pub ends : Kept → List ℕ → Step
+ends kept text = record { text = text; taken = 0; over = true; kept = kept }
+
+-- "A 10 prints its line with "-" and ends the reading"; at the end mark there is the last line alone
+unfoldable pub stepOf : Kept → Read → Step
+stepOf kept read =
+    cond (eqb (read .number) 0)
+    (cond (eqb (read .kind) 0)
+    (ends kept (closing kept))
+    (recorded kept (read .next) (says (kept .session) (kept .sram) (read .kind) (read .body))))
+    (ends kept (recordLine (kept .number) (read .number) [] ++ closing kept))
+
+-- with the capture's bytes from the record on
+abbrev pub stepFrom : Kept → List ℕ → Step
+stepFrom kept bytes = stepOf kept (found 0 bytes)
+
+-- the text for a capture from a record on, of at most so many records
+abbrev pub textIn : ℕ → Kept → List ℕ → List ℕ
+textIn zero kept bytes = []
+textIn (suc more) kept bytes =
+    stepFrom kept bytes .text
+    ++ cond (stepFrom kept bytes .over) [] (textIn more (stepFrom kept bytes .kept) (drop (stepFrom kept bytes .taken) bytes))
+
+-- no record is without bytes, so there are at most as many as bytes, and the end
+unfoldable pub textFrom : Kept → List ℕ → List ℕ
+textFrom kept bytes = textIn (suc (length bytes)) kept bytes
+
+-- what the program prints
+abbrev pub printed : List ℕ → List ℕ
+printed capture = textFrom beginning capture

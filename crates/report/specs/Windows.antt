@@ -1,0 +1,106 @@
+-- The text for a capture that is read in windows.
+use Prim.Native.Nat.{ℕ, zero, suc, _+_, _-_}
+use mathlib.Core.Path.{_≡_}
+use mathlib.Core.List.{List, [], _++_}
+use mathlib.Core.Bool.{Bool, true, false, cond, not, _&&_, _||_}
+use lib.ListN.{length, take, drop}
+use lib.Dec.{leb, ltb}
+use Rattle.octets.specs.Write.{over}
+use Rattle.stages.specs.declared.Session.{Session}
+use Rattle.report.specs.declared.Played.{Played}
+use Rattle.text.specs.Places.{Output, appended}
+use Rattle.report.specs.Steps.{Kept, Step, stepFrom, textFrom}
+
+-- Where a call is: the next place in the window, the text so far, whether it has ended, and what is kept
+pub record Playing : Type 0 where
+  pub place : ℕ
+  pub text : List ℕ
+  pub ended : Bool
+  pub kept : Kept
+
+abbrev pub atFirst : Kept → Playing
+atFirst kept = record { place = 0; text = []; ended = false; kept = kept }
+
+abbrev pub onward : List ℕ → Playing → Playing
+onward window p =
+    let bytes = drop (p .place) window in
+    record {
+      place = p .place + stepFrom (p .kept) bytes .taken;
+      text = p .text ++ stepFrom (p .kept) bytes .text;
+      ended = stepFrom (p .kept) bytes .over;
+      kept = stepFrom (p .kept) bytes .kept;
+    }
+
+-- A record is read where 14 bytes of the window are left, or the capture ends with it. Its text, which is never longer than 96
+-- bytes, must have room, and its number must not be the largest that 64 bits hold.
+abbrev pub readyIn : ℕ → Bool → ℕ → Bool → ℕ → Bool
+readyIn left last room ended number =
+    not ended && (last || leb 14 left) && leb 96 room && ltb number 0xFFFF_FFFF_FFFF_FFFF
+
+unfoldable pub ready : List ℕ → Bool → ℕ → Playing → Bool
+ready window last room p =
+    readyIn (length window - p .place) last (room - length (p .text)) (p .ended) (p .kept .number)
+
+-- as long as one can be read, and at most so many
+abbrev pub plays : ℕ → List ℕ → Bool → ℕ → Playing → Playing
+plays zero window last room p = p
+plays (suc more) window last room p =
+    cond (ready window last room p) (plays more window last room (onward window p)) p
+
+unfoldable pub playedIn : List ℕ → Bool → ℕ → Kept → Playing
+playedIn window last room kept = plays (suc (length window)) window last room (atFirst kept)
+
+-- a call: what it returns, and SRAM and the output as it leaves them
+pub record Leaves : Type 0 where
+  pub played : Played
+  pub sram : List ℕ
+  pub out : List ℕ
+
+abbrev pub asLeaves : Played → List ℕ → List ℕ → Leaves
+asLeaves played sram out = record { played = played; sram = sram; out = out }
+
+abbrev pub leftBy : Playing → List ℕ → Leaves
+leftBy p out =
+    record {
+      played = record {
+        place = p .place;
+        used = length (p .text);
+        ended = p .ended;
+        number = p .kept .number;
+        session = p .kept .session;
+      };
+      sram = p .kept .sram;
+      out = over (p .text) out;
+    }
+
+-- one record, with its text behind what the output holds already
+abbrev pub stepLeaves : Step → Output → Leaves
+stepLeaves step out =
+    record {
+      played = record {
+        place = step .taken;
+        used = appended out (step .text) .used;
+        ended = step .over;
+        number = step .kept .number;
+        session = step .kept .session;
+      };
+      sram = step .kept .sram;
+      out = appended out (step .text) .bytes;
+    }
+
+abbrev pub keeping : ℕ → Session → List ℕ → Kept
+keeping number session sram = record { number = number; session = session; sram = sram }
+
+-- Whatever follows the window, which is nothing after the last one, the text for the capture is what this call wrote, and then the
+-- text from the next place on, with what is kept by then.
+abbrev pub Goes : List ℕ → Bool → Kept → Leaves → Type 0
+Goes window last kept call =
+    (rest : List ℕ)
+    → (last ≡ true → rest ≡ [])
+    → textFrom kept (window ++ rest)
+    ≡ take (call .played .used) (call .out)
+    ++ cond (call .played .ended)
+    []
+    (textFrom
+    (record { number = call .played .number; session = call .played .session; sram = call .sram })
+    (drop (call .played .place) window ++ rest))

@@ -1,0 +1,42 @@
+-- `text::put_record` meets its contract: the answer and the echo, and in front of them a space and the record's number.
+use borrow.Author.Needs.{needs}
+use native.Mathlib.Omega.{arith}
+use denote.Ref.{now}
+use Rattle.text.proofs.put_record.Statement.{statement}
+use Rattle.text.proofs.put_record.Tie as tie
+use Rattle.text.specs.Digits.{ascii, decimal}
+use Rattle.text.specs.Lines.{echoText}
+use Rattle.text.proofs.Laws.{further, record-text, answer-length}
+
+put-answer-requires : tie.Need-put-answer-requires
+put-answer-requires c κs = search needs
+
+put-byte-requires : tie.Need-put-byte-requires
+put-byte-requires c κs =
+    let answer = c .before .before .before in
+    let start = answer .before .before .before .before in
+    (omega (arith, answer .put-answer .ensures, answer-length (start .args .answer) (now (start .args .echo)) (start .pre .0)), omega arith)
+
+put-decimal-requires : tie.Need-put-decimal-requires
+put-decimal-requires c κs =
+    let answer = c .before .before .before .before .before .before .before in
+    let start = answer .before .before .before .before in
+    (omega (arith, answer .put-answer .ensures, answer-length (start .args .answer) (now (start .args .echo)) (start .pre .0)), omega arith)
+
+same-length : tie.Need-same-length
+same-length c = search needs
+
+returns : tie.Need-returns
+returns c =
+    let number = c .before .before in
+    let space = number .before .before .before .before in
+    let answer = space .before .before .before .before in
+    let start = answer .before .before .before .before in
+    let told = record-text (decimal (start .args .number)) (decimal (start .args .answer)) (echoText (now (start .args .echo))) (ascii "\n") in
+    rw (← told)
+    (further (omega arith) (further (omega arith) (answer .put-answer .ensures) (space .put-byte .ensures)) (number .put-decimal .ensures))
+
+pub put-record-spec : {M : Type 1} → statement M
+put-record-spec =
+    tie.close
+    (tie.spec put-answer-requires put-byte-requires put-decimal-requires same-length returns)
