@@ -45,7 +45,7 @@ const SIZE_NOT_ALLOWED: u8 = 9;
 const FLASH_MAX: usize = 2_097_152;
 
 /// 000, 16.3.2 and 01: the fixed public password, 0xFEED_FACE_CAFE_BEEF.
-const PUBLIC_PASSWORD: [u8; 8] = [0xFE, 0xED, 0xFA, 0xCE, 0xCA, 0xFE, 0xBE, 0xEF];
+pub(crate) const PUBLIC_PASSWORD: [u8; 8] = [0xFE, 0xED, 0xFA, 0xCE, 0xCA, 0xFE, 0xBE, 0xEF];
 
 /// 000, Table 16-4: the low address space blocks, in the order of the search.
 const LAS_BLOCKS: [u32; 6] = [0x0, 0x4000, 0x1_0000, 0x1_C000, 0x2_0000, 0x3_0000];

@@ -6,6 +6,8 @@
 #![forbid(unsafe_code)]
 
 pub mod boot;
+pub mod capture;
 pub mod merging;
 pub mod mmu;
+pub mod replay;
 pub mod session;

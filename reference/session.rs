@@ -87,7 +87,7 @@ const NOT_SOUND: u8 = 8;
 
 /// 01, "A serial session": SRAM is 65,536 bytes at 0x4000_0000.
 const SRAM_BASE: u32 = 0x4000_0000;
-const SRAM_SIZE: u32 = 65_536;
+pub(crate) const SRAM_SIZE: u32 = 65_536;
 
 /// Whether `count` bytes from `start` lie wholly in SRAM.
 fn in_sram(start: u32, count: u32) -> bool {
@@ -136,41 +136,81 @@ impl Header {
     }
 }
 
+/// An item whose bytes are lent. The rules are stated over this one, so that a caller
+/// who holds the bytes elsewhere need not copy them.
+#[derive(Clone, Copy)]
+pub(crate) enum Lent<'a> {
+    Frame { identifier: u32, data: &'a [u8] },
+    Byte { value: &'a u8, faulty: bool },
+}
+
+/// An answer whose echo is the bytes lent with the item.
+pub(crate) struct Reply<'a> {
+    pub(crate) number: u8,
+    /// The identifier of a CAN echo, none for serial, and the data.
+    pub(crate) echo: Option<(Option<u32>, &'a [u8])>,
+    jump: Option<(u32, bool)>,
+}
+
 impl Item {
+    fn lent(&self) -> Lent<'_> {
+        match *self {
+            Item::Frame {
+                identifier,
+                ref data,
+            } => Lent::Frame { identifier, data },
+            Item::Byte { ref value, faulty } => Lent::Byte { value, faulty },
+        }
+    }
+
     pub(crate) fn port(&self) -> Port {
+        self.lent().port()
+    }
+
+    pub(crate) fn refused(&self) -> bool {
+        self.lent().refused()
+    }
+
+    pub(crate) fn opens(&self) -> bool {
+        self.lent().opens()
+    }
+}
+
+impl<'a> Lent<'a> {
+    fn port(self) -> Port {
         match self {
-            Item::Frame { .. } => Port::Can,
-            Item::Byte { .. } => Port::Serial,
+            Lent::Frame { .. } => Port::Can,
+            Lent::Byte { .. } => Port::Serial,
         }
     }
 
     /// 01, number 6. A serial byte is never refused for its form.
-    pub(crate) fn refused(&self) -> bool {
+    fn refused(self) -> bool {
         match self {
-            Item::Frame { identifier, data } => *identifier > 2_047 || data.len() > 8,
-            Item::Byte { .. } => false,
+            Lent::Frame { identifier, data } => identifier > 2_047 || data.len() > 8,
+            Lent::Byte { .. } => false,
         }
     }
 
     /// 01, "The words of demand 3": an opening.
-    pub(crate) fn opens(&self) -> bool {
+    fn opens(self) -> bool {
         match self {
-            Item::Frame { identifier, data } => *identifier == 0x011 && data.len() == 8,
-            Item::Byte { faulty, .. } => !faulty,
+            Lent::Frame { identifier, data } => identifier == 0x011 && data.len() == 8,
+            Lent::Byte { faulty, .. } => !faulty,
         }
     }
 
-    fn bytes(&self) -> &[u8] {
+    fn bytes(self) -> &'a [u8] {
         match self {
-            Item::Frame { data, .. } => data,
-            Item::Byte { value, .. } => std::slice::from_ref(value),
+            Lent::Frame { data, .. } => data,
+            Lent::Byte { value, .. } => std::slice::from_ref(value),
         }
     }
 }
 
-impl Answer {
-    fn only(number: u8) -> Answer {
-        Answer {
+impl Reply<'_> {
+    fn only(number: u8) -> Self {
+        Reply {
             number,
             echo: None,
             jump: None,
@@ -212,19 +252,29 @@ impl Session {
         }
     }
 
-    /// One call: 7, then 8, then 6, then the session's rules.
+    /// One call.
     pub fn item(&mut self, sram: &mut [u8], item: &Item) -> Answer {
+        let Reply { number, echo, jump } = self.lent(sram, item.lent());
+        let echo = echo.map(|(identifier, data)| Echo {
+            identifier,
+            data: data.to_vec(),
+        });
+        Answer { number, echo, jump }
+    }
+
+    /// One call with lent bytes: 7, then 8, then 6, then the session's rules.
+    pub(crate) fn lent<'a>(&mut self, sram: &mut [u8], item: Lent<'a>) -> Reply<'a> {
         if sram.len() != SRAM_SIZE as usize {
-            return Answer::only(SRAM_LENGTH);
+            return Reply::only(SRAM_LENGTH);
         }
         if !self.sound() {
-            return Answer::only(NOT_SOUND);
+            return Reply::only(NOT_SOUND);
         }
         if item.refused() {
-            return Answer::only(FRAME_FORM);
+            return Reply::only(FRAME_FORM);
         }
         if !self.takes(item) {
-            return Answer::only(IGNORED);
+            return Reply::only(IGNORED);
         }
 
         let bytes = item.bytes();
@@ -257,14 +307,11 @@ impl Session {
                     (LAST_BYTE_STORED, 0x003)
                 }
             }
-            Stage::Stopped { .. } | Stage::Jumped { .. } => return Answer::only(IGNORED),
+            Stage::Stopped { .. } | Stage::Jumped { .. } => return Reply::only(IGNORED),
         };
-        Answer {
+        Reply {
             number,
-            echo: Some(Echo {
-                identifier: (item.port() == Port::Can).then_some(echo),
-                data: bytes.to_vec(),
-            }),
+            echo: Some(((item.port() == Port::Can).then_some(echo), bytes)),
             jump: match self.stage {
                 Stage::Jumped { start, vle } => Some((start, vle)),
                 _ => None,
@@ -273,11 +320,11 @@ impl Session {
     }
 
     /// 01, "A serial session": whether an item of allowed form is taken or ignored.
-    fn takes(&self, item: &Item) -> bool {
+    fn takes(&self, item: Lent) -> bool {
         match (&self.stage, item) {
             (Stage::Waiting, _) => item.opens(),
-            (Stage::Header { port: Port::Can }, Item::Frame { identifier, data }) => {
-                *identifier == 0x012 && data.len() == 8
+            (Stage::Header { port: Port::Can }, Lent::Frame { identifier, data }) => {
+                identifier == 0x012 && data.len() == 8
             }
             (
                 Stage::Data {
@@ -285,9 +332,9 @@ impl Session {
                     owed,
                     ..
                 },
-                Item::Frame { identifier, data },
+                Lent::Frame { identifier, data },
             ) => {
-                *identifier == 0x013
+                identifier == 0x013
                     && (1..=8).contains(&data.len())
                     && data.len() as u64 <= u64::from(*owed)
             }
@@ -297,7 +344,7 @@ impl Session {
                 | Stage::Data {
                     port: Port::Serial, ..
                 },
-                Item::Byte { faulty, .. },
+                Lent::Byte { faulty, .. },
             ) => !faulty,
             // The other port's items; all items of a stopped or jumped session.
             _ => false,
@@ -476,7 +523,7 @@ pub(crate) mod tests {
             let answer = session.item(&mut sram, &item);
             last = answer.number;
             let echo = (port == Port::Can).then_some(identifier - 0x010);
-            assert_eq!(answer, echoed(last, echo, item.bytes()));
+            assert_eq!(answer, echoed(last, echo, item.lent().bytes()));
         }
         assert_eq!(sram, memory());
         assert!(session.sound() && session.held.is_empty());
@@ -1204,13 +1251,14 @@ pub(crate) mod tests {
             } else {
                 assert_ne!(after, session);
                 let echo = answer.echo.as_ref().unwrap();
-                assert_eq!(echo.data, item.bytes());
+                assert_eq!(echo.data, item.lent().bytes());
                 assert_eq!(echo.identifier.is_some(), item.port() == Port::Can);
             }
             match session.stage {
                 Stage::Data { next, .. } if matches!(answer.number, 0 | 5) => {
                     let from = (next - BASE) as usize;
-                    sram[from..from + item.bytes().len()].copy_from_slice(item.bytes());
+                    sram[from..from + item.lent().bytes().len()]
+                        .copy_from_slice(item.lent().bytes());
                 }
                 _ => {}
             }
