@@ -10,6 +10,7 @@ use crate::{ours, Among, Tally};
 use reference::session::{load, picked, plain, stream, Answer, Item, Port};
 use std::array;
 use std::fmt;
+use std::slice;
 
 pub const SRAM: usize = 65_536;
 pub const BASE: u32 = 0x4000_0000;
@@ -102,15 +103,12 @@ impl Parts {
             answers: ANSWER * items.len(),
         };
         for item in items {
-            let (kind, identifier, bytes) = match item {
-                Item::Frame { identifier, data } => (1, *identifier, &data[..]),
-                Item::Byte { value, faulty } => {
-                    let kind = if *faulty { 3 } else { 2 };
-                    (kind, random.number() as u32, std::slice::from_ref(value))
-                }
-            };
+            let (kind, bytes) = kind_and_bytes(item);
             parts.kinds.push(kind);
-            parts.identifiers.push(identifier);
+            parts.identifiers.push(match item {
+                Item::Frame { identifier, .. } => *identifier,
+                Item::Byte { .. } => random.number() as u32,
+            });
             parts.counts.push(bytes.len() as u32);
             parts.bytes.extend_from_slice(bytes);
         }
@@ -572,8 +570,16 @@ fn port_number(port: Port) -> usize {
     }
 }
 
+/// The kind of boot_assist_kind, as in a capture, and the data or the byte.
+pub fn kind_and_bytes(item: &Item) -> (u8, &[u8]) {
+    match item {
+        Item::Frame { data, .. } => (1, data),
+        Item::Byte { value, faulty } => (if *faulty { 3 } else { 2 }, slice::from_ref(value)),
+    }
+}
+
 /// 01, number 6.
-fn refused_for_form(item: &Item) -> bool {
+pub fn refused_for_form(item: &Item) -> bool {
     match item {
         Item::Frame { identifier, data } => *identifier > 2_047 || data.len() > 8,
         Item::Byte { .. } => false,

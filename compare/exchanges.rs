@@ -13,7 +13,18 @@ use crate::report::line;
 use reference::session::Item;
 
 /// An item and the answer that is printed.
-type Turn = (Item, Row);
+pub type Turn = (Item, Row);
+
+/// Items from a fresh session, with what is printed of them.
+pub struct Exchange {
+    pub name: &'static str,
+    selected: [u8; 8],
+    pub turns: Vec<Turn>,
+    /// The session after them.
+    pub after: [u32; SESSION],
+    /// What SRAM has after them, from its first byte on.
+    loaded: Vec<u8>,
+}
 
 const SERIAL_DIRECTLY: u8 = 2;
 const CAN: u32 = 0;
@@ -65,33 +76,52 @@ fn session(
     numbers
 }
 
-/// Runs an exchange from a fresh session, and compares with what is printed.
+/// An exchange of which nothing is printed about SRAM.
 fn exchange(
-    bench: &mut Bench,
-    name: &str,
+    name: &'static str,
     selected: [u8; 8],
     turns: &[Turn],
     after: [u32; SESSION],
-) -> Result<(), String> {
-    bench.fill();
-    let items: Vec<Item> = turns.iter().map(|(item, _)| item.clone()).collect();
-    let rows = bench
-        .run_fresh(SERIAL_DIRECTLY, selected, &items)
-        .map_err(|difference| format!("{name}\n{difference}"))?;
-    for (index, (row, (_, printed))) in rows.iter().zip(turns).enumerate() {
-        if row != printed {
-            let lines = numbers(row, printed, answer_name);
-            return Err(format!(
-                "{name}, item {} of\n{items:X?}\n{lines}",
-                index + 1
-            ));
+) -> Exchange {
+    Exchange {
+        name,
+        selected,
+        turns: turns.to_vec(),
+        after,
+        loaded: Vec::new(),
+    }
+}
+
+impl Exchange {
+    pub fn items(&self) -> Vec<Item> {
+        self.turns.iter().map(|(item, _)| item.clone()).collect()
+    }
+
+    /// Runs the exchange, and compares with what is printed.
+    pub fn run(&self, bench: &mut Bench) -> Result<(), String> {
+        let (name, items) = (self.name, self.items());
+        bench.fill();
+        let rows = bench
+            .run_fresh(SERIAL_DIRECTLY, self.selected, &items)
+            .map_err(|difference| format!("{name}\n{difference}"))?;
+        for (index, (row, (_, printed))) in rows.iter().zip(&self.turns).enumerate() {
+            if row != printed {
+                let lines = numbers(row, printed, answer_name);
+                return Err(format!(
+                    "{name}, item {} of\n{items:X?}\n{lines}",
+                    index + 1
+                ));
+            }
         }
+        if bench.numbers() != self.after {
+            let lines = numbers(&bench.numbers(), &self.after, session_name);
+            return Err(format!("{name}, the session after\n{items:X?}\n{lines}"));
+        }
+        if !bench.sram().starts_with(&self.loaded) {
+            return Err(format!("{name}: SRAM does not have the program\n"));
+        }
+        Ok(())
     }
-    if bench.numbers() != after {
-        let lines = numbers(&bench.numbers(), &after, session_name);
-        return Err(format!("{name}, the session after\n{items:X?}\n{lines}"));
-    }
-    Ok(())
 }
 
 fn numbers(ours: &[u32], printed: &[u32], name: fn(usize) -> String) -> String {
@@ -104,7 +134,8 @@ fn numbers(ours: &[u32], printed: &[u32], name: fn(usize) -> String) -> String {
 }
 
 /// 01, the cases P1 to P9, "Run:", the slips, and the items of the capture.
-pub fn trials(bench: &mut Bench) -> Result<(), String> {
+pub fn trials() -> Vec<Exchange> {
+    let mut trials = Vec::new();
     #[rustfmt::skip]
     let headers: [(&str, [u8; 8], u32, [u32; 3]); 11] = [
         // Start, VLE and length of those that are accepted.
@@ -129,7 +160,7 @@ pub fn trials(bench: &mut Bench) -> Result<(), String> {
                 0 => session(PUBLIC, 3, port, [start, vle, start, length, 0]),
                 _ => session(PUBLIC, 4, 0, [0, 0, 0, 0, number]),
             };
-            exchange(bench, name, PUBLIC, &turns, after)?;
+            trials.push(exchange(name, PUBLIC, &turns, after));
         }
         for (name, password) in [
             ("P9", *b"\xFE\xED\x00\x00\xCA\xFE\xBE\xEF"),
@@ -141,7 +172,7 @@ pub fn trials(bench: &mut Bench) -> Result<(), String> {
         ] {
             let turns = sent(port, 0x011, &password, 2);
             let after = session(password, 4, 0, [0, 0, 0, 0, 2]);
-            exchange(bench, name, password, &turns, after)?;
+            trials.push(exchange(name, password, &turns, after));
         }
     }
 
@@ -154,7 +185,7 @@ pub fn trials(bench: &mut Bench) -> Result<(), String> {
     ]
     .concat();
     let after = session(PUBLIC, 3, CAN, [0x4000_0000, 0, 0x4000_0005, 3, 0]);
-    exchange(bench, "owed 3, 4 bytes", PUBLIC, &turns, after)?;
+    trials.push(exchange("owed 3, 4 bytes", PUBLIC, &turns, after));
 
     // Run: a second 0x011.
     let second = vec![(frame(0x011, &PUBLIC), IGNORED)];
@@ -166,9 +197,9 @@ pub fn trials(bench: &mut Bench) -> Result<(), String> {
     ]
     .concat();
     let after = session(PUBLIC, 2, CAN, [0; 5]);
-    exchange(bench, "a second 0x011", PUBLIC, &turns[..2], after)?;
+    trials.push(exchange("a second 0x011", PUBLIC, &turns[..2], after));
     let after = session(PUBLIC, 3, CAN, [0x4000_0000, 0, 0x4000_0000, 8, 0]);
-    exchange(bench, "a second 0x011", PUBLIC, &turns, after)?;
+    trials.push(exchange("a second 0x011", PUBLIC, &turns, after));
 
     // A faulty byte does not open the serial port.
     let turns = [
@@ -178,9 +209,9 @@ pub fn trials(bench: &mut Bench) -> Result<(), String> {
     ]
     .concat();
     let after = session(PUBLIC, 0, 0, [0; 5]);
-    exchange(bench, "faulty first", PUBLIC, &turns[..1], after)?;
+    trials.push(exchange("faulty first", PUBLIC, &turns[..1], after));
     let after = session(PUBLIC, 2, CAN, [0; 5]);
-    exchange(bench, "faulty first", PUBLIC, &turns, after)?;
+    trials.push(exchange("faulty first", PUBLIC, &turns, after));
 
     // The items of the capture.
     let turns = [
@@ -191,19 +222,16 @@ pub fn trials(bench: &mut Bench) -> Result<(), String> {
     let mut after = session(PUBLIC, 1, SERIAL, [0; 5]);
     after[10] = 1;
     after[11] = 0xFE;
-    exchange(bench, "the capture", PUBLIC, &turns, after)
+    trials.push(exchange("the capture", PUBLIC, &turns, after));
+    trials
 }
 
 /// 002: CAN without VLE (Tables 7 to 12) and with it (Table 14), and serial (Table 13).
 /// The echo is the data as received: Table 8 misprints one byte of it.
-pub fn document_002(bench: &mut Bench) -> Result<(), String> {
+pub fn document_002() -> Vec<Exchange> {
     let mut random = Random::new(0x1400);
     let program: Vec<u8> = (0..0x1400).map(|_| random.byte()).collect();
-    for (name, port, size, vle) in [
-        ("002, Tables 7 to 12", CAN, 0x00, 0),
-        ("002, Table 14", CAN, 0x80, 1),
-        ("002, Table 13", SERIAL, 0x80, 1),
-    ] {
+    let exchange = |(name, port, size, vle)| {
         let header = [0x40, 0x00, 0x00, 0x00, size, 0x00, 0x14, 0x00];
         let mut turns = [sent(port, 0x011, &PUBLIC, 0), sent(port, 0x012, &header, 0)].concat();
         for data in program.chunks(8) {
@@ -213,11 +241,18 @@ pub fn document_002(bench: &mut Bench) -> Result<(), String> {
         last[0] = 5;
         last[JUMP] = 0x4000_0000;
         last[JUMP_VLE] = vle;
-        let after = session(PUBLIC, 5, 0, [0x4000_0000, vle, 0, 0, 0]);
-        exchange(bench, name, PUBLIC, &turns, after)?;
-        if bench.sram()[..0x1400] != program {
-            return Err(format!("{name}: SRAM does not have the program\n"));
+        Exchange {
+            name,
+            selected: PUBLIC,
+            turns,
+            after: session(PUBLIC, 5, 0, [0x4000_0000, vle, 0, 0, 0]),
+            loaded: program.clone(),
         }
-    }
-    Ok(())
+    };
+    let exchanges = [
+        ("002, Tables 7 to 12", CAN, 0x00, 0),
+        ("002, Table 14", CAN, 0x80, 1),
+        ("002, Table 13", SERIAL, 0x80, 1),
+    ];
+    exchanges.into_iter().map(exchange).collect()
 }

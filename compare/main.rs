@@ -1,17 +1,25 @@
 //! Hands the same inputs to the library and to the reference, and compares the
-//! answers: `compare [SEED] [COUNT] [LISTS]`, with COUNT random boot inputs, and LISTS
-//! random lists of session items and as many random sessions.
+//! answers: `compare [SEED] [COUNT] [LISTS] [CAPTURES]`, with COUNT random boot inputs,
+//! LISTS random lists of session items and as many random sessions, and CAPTURES random
+//! captures, for which the program target/bin/replay, or the one that the environment's
+//! REPLAY names, is run.
 
 mod bench;
 mod boot;
+mod captures;
 mod exchanges;
+mod fixed;
 mod making;
 mod numbers;
 mod ours;
+mod program;
 mod random;
+mod reader;
+mod records;
 mod report;
 mod session;
 
+use program::Program;
 use random::Random;
 use std::env;
 use std::fmt;
@@ -20,20 +28,32 @@ use std::process::ExitCode;
 const SEED: u64 = 0x5A55_AAFE_EDFA_CE01;
 const COUNT: u64 = 40_000;
 const LISTS: u64 = 60_000;
+const CAPTURES: u64 = 24_000;
 
 fn main() -> ExitCode {
-    let [seed, count, lists] = match arguments() {
+    let [seed, count, lists, captures] = match arguments() {
         Ok(arguments) => arguments,
         Err(message) => {
-            eprintln!("compare: {message}\nusage: compare [SEED] [COUNT] [LISTS]");
+            eprintln!("compare: {message}\nusage: compare [SEED] [COUNT] [LISTS] [CAPTURES]");
             return ExitCode::from(2);
         }
     };
-    println!("compare: seed {seed:#x}");
+    let program = match Program::find() {
+        Ok(program) => program,
+        Err(message) => {
+            eprintln!("compare: {message}");
+            return ExitCode::from(2);
+        }
+    };
+    println!("compare: seed {seed:#x}, program {:?}", program.name);
 
     let mut tally = Tally::default();
     let compared = boot::run(Random::new(seed), count, &mut tally)
-        .and_then(|()| session::run(Random::new(!seed), lists, &mut tally));
+        .and_then(|()| session::run(Random::new(!seed), lists, &mut tally))
+        .and_then(|()| {
+            let random = Random::new(seed.swap_bytes());
+            captures::run(random, captures, &program, &mut tally)
+        });
     if let Err(difference) = compared {
         let number = tally.inputs + 1;
         println!("compare: difference at seed {seed:#x}, input number {number}\n{difference}");
@@ -52,10 +72,10 @@ fn main() -> ExitCode {
     ExitCode::SUCCESS
 }
 
-fn arguments() -> Result<[u64; 3], String> {
+fn arguments() -> Result<[u64; 4], String> {
     let arguments: Vec<_> = env::args_os().skip(1).collect();
-    if arguments.len() > 3 {
-        return Err(format!("{} arguments, at most 3 expected", arguments.len()));
+    if arguments.len() > 4 {
+        return Err(format!("{} arguments, at most 4 expected", arguments.len()));
     }
     let number = |index: usize, name: &str, default: u64| match arguments.get(index) {
         None => Ok(default),
@@ -67,6 +87,7 @@ fn arguments() -> Result<[u64; 3], String> {
         number(0, "SEED", SEED)?,
         number(1, "COUNT", COUNT)?,
         number(2, "LISTS", LISTS)?,
+        number(3, "CAPTURES", CAPTURES)?,
     ])
 }
 

@@ -64,6 +64,27 @@ pub fn header(start: u32, size: u32) -> [u8; 8] {
     (u64::from(start) << 32 | u64::from(size)).to_be_bytes()
 }
 
+/// The items of a load; a data frame has `bytes` bytes.
+pub fn load(
+    port: Port,
+    password: &[u8; 8],
+    header: &[u8; 8],
+    data: &[u8],
+    bytes: usize,
+) -> Vec<Item> {
+    match port {
+        Port::Can => {
+            let data = data.chunks(bytes).map(|data| frame(0x013, data));
+            let before = [frame(0x011, password), frame(0x012, header)];
+            before.into_iter().chain(data).collect()
+        }
+        Port::Serial => {
+            let bytes = [password, &header[..], data].concat();
+            bytes.into_iter().map(clean).collect()
+        }
+    }
+}
+
 /// What is meant to be sent.
 struct Plan {
     /// The port to open.
@@ -271,6 +292,11 @@ impl Maker {
             1..=6 => (16, 1 + self.random.below(20)),
             _ => (16, 30 + self.random.below(11)),
         };
+        self.list_of(selected, most, limit)
+    }
+
+    /// A list of at most `limit` items, meant mostly as a load of at most `most` bytes.
+    pub fn list_of(&mut self, selected: [u8; 8], most: usize, limit: usize) -> Vec<Item> {
         let plan = self.plan(selected, most);
         // How often another item comes, and whether only where it is not taken.
         let seldom = self.random.pick(&[1_000, 1_000, 12, 12, 6, 6, 3, 3, 2, 1]);

@@ -67,6 +67,14 @@ extern "C" {
         answers: *mut u32,
         answers_len: usize,
     ) -> u8;
+
+    fn boot_assist_read(
+        capture: *const u8,
+        capture_len: usize,
+        at: usize,
+        fields: *mut usize,
+        fields_len: usize,
+    ) -> u8;
 }
 
 pub fn choice(
@@ -179,6 +187,19 @@ pub fn list(
             bytes.len(),
             answers.as_mut_ptr(),
             answers.len(),
+        )
+    }
+}
+
+pub fn read(capture: &[u8], at: usize, fields: &mut [usize]) -> u8 {
+    // SAFETY: as above.
+    unsafe {
+        boot_assist_read(
+            capture.as_ptr(),
+            capture.len(),
+            at,
+            fields.as_mut_ptr(),
+            fields.len(),
         )
     }
 }

@@ -2,7 +2,7 @@
 
 use crate::bench::{Bench, Lengths, Parts, BASE, RIGHT, SESSION_MAX, SRAM, SRAM_MAX};
 use crate::exchanges;
-use crate::making::{clean, faulty, frame, header, Maker, END, PUBLIC};
+use crate::making::{clean, faulty, frame, header, load, Maker, END, PUBLIC};
 use crate::numbers::{ANSWER, COUNT, HELD, NEXT, OWED, PORT, REFUSAL, SESSION, STAGE, START, VLE};
 use crate::random::Random;
 use crate::Tally;
@@ -16,7 +16,9 @@ pub fn run(mut random: Random, count: u64, tally: &mut Tally) -> Result<(), Stri
         maker: Maker::new(random),
     };
     run.fresh_sessions()?;
-    exchanges::trials(&mut run.bench)?;
+    for exchange in exchanges::trials() {
+        exchange.run(&mut run.bench)?;
+    }
     run.frames()?;
     run.bytes()?;
     run.lengths()?;
@@ -33,7 +35,9 @@ pub fn run(mut random: Random, count: u64, tally: &mut Tally) -> Result<(), Stri
     }
     run.bench.at_random = false;
 
-    exchanges::document_002(&mut run.bench)?;
+    for exchange in exchanges::document_002() {
+        exchange.run(&mut run.bench)?;
+    }
     run.large_loads()
 }
 
@@ -392,17 +396,7 @@ impl Run<'_> {
     fn large_load(&mut self, port: Port, header: [u8; 8], length: usize) -> Result<(), String> {
         let data = self.maker.bytes(length);
         let bytes = self.maker.random.pick(&[5, 7, 8]);
-        let mut items: Vec<Item> = match port {
-            Port::Can => {
-                let data = data.chunks(bytes).map(|data| frame(0x013, data));
-                let before = [frame(0x011, &PUBLIC), frame(0x012, &header)];
-                before.into_iter().chain(data).collect()
-            }
-            Port::Serial => {
-                let bytes = [&PUBLIC[..], &header, &data].concat();
-                bytes.into_iter().map(clean).collect()
-            }
-        };
+        let mut items = load(port, &PUBLIC, &header, &data, bytes);
         items.extend([frame(0x013, &[0xA5]), clean(0xA5)]);
         self.bench.fill();
         let mode = self.maker.mode();
