@@ -5,9 +5,7 @@
 set -eu
 root=$(cd "$(dirname "$0")/.." && pwd)
 out=$root/target/examples
-mkdir -p "$out"
-(cd "$root" && rt staticlib exports) >"$out/staticlib.log" 2>&1 || { cat "$out/staticlib.log" >&2; exit 2; }
-cc -std=c11 -Wall -Wextra -Werror -O2 -I"$root/include" -o "$out/choice" "$root/examples/choice.c" "$root/target/staticlib/libexports.a"
+sh "$root/examples/build.sh" choice
 
 if [ $# -eq 0 ]; then
     # zeroes up to 0x1C000; there watchdog and 16-bit bus, the boot identifier 5A, and the jump address 0x0001C010
