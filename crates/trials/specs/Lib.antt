@@ -1,3 +1,1 @@
 pub mod Trials
-pub mod Lists
-pub mod Rows

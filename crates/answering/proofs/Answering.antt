@@ -19,7 +19,7 @@ use Rattle.stages.specs.Items.{Item, wellFormed, portOf, bytesOf}
 use Rattle.stages.specs.Taking.{takes}
 use Rattle.session.specs.Rules.{received, checked, judged, loaded, echoes, passwordMoved, headerMoved, moved, keeps, takenBy, ruled, after}
 use Rattle.stages.specs.Sound.{sound}
-use Rattle.trials.specs.Rows.{wrongPassword, lengthZero, notInSram, lastStored, takenNumber, numberDue, changesNothing, stageSaid}
+use Rattle.answering.specs.Rows.{wrongPassword, lengthZero, notInSram, lastStored, takenNumber, numberDue, changesNothing, stageSaid}
 
 password-number : (session : Session) (port : Port) (all : List ℕ) (a b : Bool) → eqb (length all) 8 ≡ a
     → passes all (session .selected) ≡ b

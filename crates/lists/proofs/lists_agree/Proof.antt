@@ -1,4 +1,4 @@
--- `trials::lists_agree` meets its contract: each case holds by computation.
+-- `lists::lists_agree` meets its contract: each case holds by computation.
 use mathlib.Core.Path.{refl}
 use Rattle.octets.specs.Same.{same}
 use Rattle.header.specs.Reading.{verdictOf}
@@ -10,9 +10,9 @@ use Rattle.session.specs.Answers.{firstDue}
 use Rattle.session.specs.Rules.{after, ruled, takenBy, echoes, moved, passwordMoved, checked, headerMoved, loaded, keeps}
 use Rattle.merging.specs.Running.{ran, pickedPort, only, jumpsIn}
 use Rattle.merging.specs.Plain.{cleanBytes, dataBytes, headerBytes, frameBytes, complete}
-use Rattle.trials.specs.Lists.{listTable}
-use Rattle.trials.proofs.lists_agree.Statement.{statement}
-use Rattle.trials.proofs.lists_agree.Tie as tie
+use Rattle.lists.specs.Lists.{listTable}
+use Rattle.lists.proofs.lists_agree.Statement.{statement}
+use Rattle.lists.proofs.lists_agree.Tie as tie
 
 returns : tie.Need-returns
 unfolding

@@ -1,4 +1,4 @@
--- `trials::rows_hold` meets its contract: by the tests of the table's rows.
+-- `answering::rows_hold` meets its contract: by the tests of the table's rows.
 use Prim.Native.Nat.{ℕ}
 use mathlib.Core.Path.{_≡_, refl}
 use mathlib.Core.List.{List}
@@ -8,9 +8,9 @@ use Rattle.stages.specs.declared.Session.{Session}
 use Rattle.stages.specs.Items.{Item, wellFormed}
 use Rattle.stages.specs.Taking.{takes}
 use Rattle.stages.specs.Sound.{sound}
-use Rattle.trials.proofs.Answering.{exactly, kept, unmoved, echoed, leaves}
-use Rattle.trials.proofs.rows_hold.Statement.{statement}
-use Rattle.trials.proofs.rows_hold.Tie as tie
+use Rattle.answering.proofs.Answering.{exactly, kept, unmoved, echoed, leaves}
+use Rattle.answering.proofs.rows_hold.Statement.{statement}
+use Rattle.answering.proofs.rows_hold.Tie as tie
 
 -- what holds whatever the four tests say holds
 by-tests : (session : Session) (sram : List ℕ) (item : Item) {P : Type 0}
