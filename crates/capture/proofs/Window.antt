@@ -10,7 +10,7 @@ use lib.ListN.{length, take, drop}
 use lib.Seq.{take-all, take-take, take-add, drop-at, length-take-le, getD-take}
 use Rattle.octets.specs.Read.{halfAt}
 use Rattle.capture.specs.declared.RecordHeader.{RecordHeader}
-use Rattle.capture.specs.Records.{lengthOf, versionOf, kindOf, identifierOf, fitsKind, fitsCan, good, headerOf, answered, found}
+use Rattle.capture.specs.Records.{lengthOf, versionOf, kindOf, identifierOf, fitsKind, fitsCan, good, headerOf, answered, found, reads}
 use Rattle.capture.proofs.Laws.{kind-length, header-room}
 
 -- the bytes, and the first 14 of them
@@ -70,3 +70,11 @@ found-first at (b ∷ bytes) = answered-same (b ∷ bytes) at
 -- so two captures that have these bytes in common get the same answer
 pub window : (at : ℕ) (bytes others : List ℕ) → take 14 bytes ≡ take 14 others → found at bytes ≡ found at others
 window at bytes others same = sym (found-first at bytes) ∙ ap (found at) same ∙ found-first at others
+
+-- and so do two captures at one place of both
+pub reads-window : (capture other : List ℕ) (at : ℕ) → at ≤ length capture → at ≤ length other
+    → take 14 (drop at capture) ≡ take 14 (drop at other)
+    → reads capture at ≡ reads other at
+unfolding reads
+reads-window capture other at h k same =
+    rw (le-leb at (length capture) h, le-leb at (length other) k) (window at (drop at capture) (drop at other) same)

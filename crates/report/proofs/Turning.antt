@@ -14,7 +14,7 @@ use Rattle.capture.specs.Records.{found}
 use Rattle.report.specs.declared.Heard.{Heard}
 use Rattle.report.specs.declared.Played.{Played}
 use Rattle.report.specs.Steps.{Kept, Step, stepFrom}
-use Rattle.report.specs.Windows.{Playing, onward, readyIn, ready, plays, playedIn, Leaves, asLeaves, leftBy, stepLeaves, keeping}
+use Rattle.report.specs.Windows.{Playing, turnOf, onward, readyIn, ready, plays, playedIn, Leaves, asLeaves, leftBy, stepLeaves, keeping}
 use Rattle.report.specs.Turns.{asHears, hearsOf, toldOf, playedBehind}
 use Rattle.report.proofs.Laws.{leavesBy, movedOn, told-same, step-text, step-leaves}
 use Rattle.report.proofs.Going.{step-within}
@@ -44,7 +44,7 @@ abbrev pub leftIn : List ℕ → Played → ℕ
 leftIn window turn = cond (turn .ended) 0 (suc (length window - turn .place))
 
 pub turning-first : (window : List ℕ) (last : Bool) (kept : Kept) (out : List ℕ)
-    → Turning window last kept out (record { place = 0; used = 0; ended = false; number = kept .number; session = kept .session }) (kept .sram) out
+    → Turning window last kept out (turnOf kept) (kept .sram) out
 unfolding playedIn
 turning-first window last kept out =
     record {

@@ -93,7 +93,3 @@ textIn (suc more) kept bytes =
 -- no record is without bytes, so there are at most as many as bytes, and the end
 unfoldable pub textFrom : Kept → List ℕ → List ℕ
 textFrom kept bytes = textIn (suc (length bytes)) kept bytes
-
--- what the program prints
-abbrev pub printed : List ℕ → List ℕ
-printed capture = textFrom beginning capture

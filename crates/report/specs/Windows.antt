@@ -18,6 +18,11 @@ pub record Playing : Type 0 where
   pub ended : Bool
   pub kept : Kept
 
+-- as a call has it before the first record
+abbrev pub turnOf : Kept → Played
+turnOf kept =
+    record { place = 0; used = 0; ended = false; number = kept .number; session = kept .session }
+
 abbrev pub atFirst : Kept → Playing
 atFirst kept = record { place = 0; text = []; ended = false; kept = kept }
 
@@ -102,5 +107,5 @@ Goes window last kept call =
     ++ cond (call .played .ended)
     []
     (textFrom
-    (record { number = call .played .number; session = call .played .session; sram = call .sram })
+    (keeping (call .played .number) (call .played .session) (call .sram))
     (drop (call .played .place) window ++ rest))

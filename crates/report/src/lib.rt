@@ -5,15 +5,13 @@ ghost use mathlib.Core.List.{[]};
 ghost use lib.ListN.{length, drop};
 ghost use Rattle.boot.specs.Table.{publicPassword};
 ghost use Rattle.stages.specs.Fresh.{freshSession};
-ghost use Rattle.session.specs.Answers.{noEcho, left, asAfter};
+ghost use Rattle.session.specs.Answers.{asAfter};
 ghost use Rattle.capture.specs.Records.{found};
 ghost use Rattle.text.specs.Lines.{lastLine};
 ghost use Rattle.text.specs.Places.{asOutput};
-ghost use Rattle.report.specs.Steps.{leading, says, echoed, recorded, ends};
-ghost use Rattle.report.specs.Windows.{readyIn, playedIn, asLeaves, leftBy, stepLeaves, keeping, Goes};
+ghost use Rattle.report.specs.Steps.{beginning, leading, says, echoed, recorded, ends};
+ghost use Rattle.report.specs.Windows.{turnOf, readyIn, playedIn, asLeaves, leftBy, stepLeaves, keeping, Goes};
 ghost use Rattle.report.specs.Turns.{asHears, hearsOf, toldOf, playedBehind};
-use session::Answer;
-use session::Echo;
 use session::Outcome;
 use session::Reply;
 use stages::Session;
@@ -35,29 +33,24 @@ pub fn opening() -> Session
     stages::waiting(boot::PUBLIC)
 }
 
-// No echo.
-fn no_echo() -> Echo
-    ensures { λ r. ⌜ r ≡ noEcho ⌝ }
+// What a capture begins with: record number 1 and that session.
+pub fn begin() -> Played
+    ensures { λ r. ⌜ r ≡ turnOf beginning ⌝ }
 {
-    Echo {
-        identifier: 0,
-        length: 0,
-        bytes: [0; 8],
+    Played {
+        place: 0,
+        used: 0,
+        ended: false,
+        number: 1,
+        session: opening(),
     }
 }
 
-// A reset: a new choice, with SRAM kept.
-fn reset() -> Reply
-    ensures { λ r. ⌜ r ≡ left Outcome.Taken (freshSession publicPassword) ⌝ }
+// And zeroed SRAM.
+pub fn zeroed_sram() -> [u8; 65536]
+    ensures { λ r. ⌜ r ≡ beginning .sram ⌝ }
 {
-    let answer = Answer {
-        outcome: Outcome::Taken,
-        echo: no_echo(),
-    };
-    Reply {
-        answer: answer,
-        session: opening(),
-    }
+    [0; 65536]
 }
 
 // How many bytes of a body stand before an item's own.
@@ -75,7 +68,7 @@ fn answer_record(session: Session, sram: &mut [u8], kind: u8, body: &[u8]) -> Re
     ensures { λ r. ⌜ asAfter r (now (sram .exit)) ≡ says session (now (sram .entry)) kind (now (body .entry)) ⌝ }
 {
     if kind == 4 {
-        return reset();
+        return session::leave(opening(), Outcome::Taken);
     }
     let identifier = octets::half(body, 0);
     let from = octets::least(leading_bytes(kind), body.len());
@@ -126,20 +119,6 @@ pub struct Heard {
     pub reply: Reply,
 }
 
-// No record was answered: the session as it was.
-fn unanswered(session: Session) -> Reply
-    ensures { λ r. ⌜ r ≡ left Outcome.Ignored session ⌝ }
-{
-    let answer = Answer {
-        outcome: Outcome::Ignored,
-        echo: no_echo(),
-    };
-    Reply {
-        answer: answer,
-        session: session,
-    }
-}
-
 // Reads the record at a place of the window, and hands it to the session.
 fn hear(window: &[u8], place: usize, session: Session, sram: &mut [u8]) -> Heard
     requires { ⌜ place ≤ length (now window) ⌝ }
@@ -154,7 +133,7 @@ fn hear(window: &[u8], place: usize, session: Session, sram: &mut [u8]) -> Heard
             number: number,
             kind: kind,
             taken: taken,
-            reply: unanswered(session),
+            reply: session::leave(session, Outcome::Ignored),
         };
     }
     Heard {

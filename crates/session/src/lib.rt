@@ -309,7 +309,7 @@ fn take(session: Session, sram: &mut [u8], port: Port, bytes: &[u8]) -> Reply
 }
 
 // No echo, and nothing changed.
-fn leave(session: Session, outcome: Outcome) -> Reply
+pub fn leave(session: Session, outcome: Outcome) -> Reply
     ensures { λ r. ⌜ r ≡ left outcome session ⌝ }
 {
     let answer = Answer {

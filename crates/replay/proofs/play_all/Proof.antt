@@ -15,8 +15,8 @@ Inv-loop window₀ sram₀ out₀ run₀ turns₀ window sram out run turns = (l
 abbrev μ-loop : tie.MeasureT-loop
 μ-loop window₀ sram₀ out₀ run₀ turns₀ window sram out run turns = turns
 
-opening-requires : tie.Need-opening-requires Inv-loop μ-loop
-opening-requires c κs = tt
+begin-requires : tie.Need-begin-requires Inv-loop μ-loop
+begin-requires c κs = tt
 
 loop-holds : tie.Need-loop-holds Inv-loop μ-loop
 loop-holds c = (refl, refl, refl)
@@ -61,7 +61,7 @@ play-all-spec =
     (tie.spec
     Inv-loop
     μ-loop
-    opening-requires
+    begin-requires
     loop-holds
     play-on-requires
     sub-turns

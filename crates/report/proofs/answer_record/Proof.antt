@@ -12,13 +12,18 @@ use Rattle.report.proofs.answer_record.Tie as tie
 use Rattle.report.specs.Steps.{leading}
 use Rattle.report.proofs.Laws.{says-reset, says-item, item-lent}
 
-reset-requires : tie.Need-reset-requires
-reset-requires c κs = search needs
+opening-requires : tie.Need-opening-requires
+opening-requires c κs = search needs
+
+leave-requires : tie.Need-leave-requires
+leave-requires c κs = search needs
 
 returns : tie.Need-returns
 returns c =
-    let a = c .before .before .before .before .args in
-    rw (c .reset .ensures) (says-reset (a .session) (now (a .sram)) (a .kind) (now (a .body)) (c .before .if1 .taken))
+    let test = c .before .before in
+    let a = test .before .before .before .args in
+    rw (c .leave .ensures, c .before .opening .ensures)
+    (says-reset (a .session) (now (a .sram)) (a .kind) (now (a .body)) (test .if1 .taken))
 
 half-requires : tie.Need-half-requires
 half-requires c κs = search needs
@@ -64,7 +69,8 @@ pub answer-record-spec : {M : Type 1} → statement M
 answer-record-spec =
     tie.close
     (tie.spec
-    reset-requires
+    opening-requires
+    leave-requires
     returns
     half-requires
     leading-bytes-requires

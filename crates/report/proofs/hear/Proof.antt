@@ -25,8 +25,8 @@ part-read-end c = search needs
 read-requires : tie.Need-read-requires
 read-requires c κs = search needs
 
-unanswered-requires : tie.Need-unanswered-requires
-unanswered-requires c κs = search needs
+leave-requires : tie.Need-leave-requires
+leave-requires c κs = search needs
 
 returns : tie.Need-returns
 returns c =
@@ -37,7 +37,7 @@ returns c =
     let number = read .last .1 .1 .0 in
     let kind = read .last .1 .1 .1 .0 in
     let next = read .last .1 .1 .1 .1 .0 in
-    ap (λ (reply : Reply). heardAs number kind next (asAfter reply (now (a .sram)))) (c .unanswered .ensures)
+    ap (λ (reply : Reply). heardAs number kind next (asAfter reply (now (a .sram)))) (c .leave .ensures)
     ∙ hears-none (a .session) (now (a .sram)) bytes number kind next (now (read .result)) (read .ensures .0) (test .if1 .taken)
     ∙ ap (λ (l : List ℕ). hearsOf (a .session) (now (a .sram)) (found 0 l)) (lent-whole (now (a .window)) (a .place))
 
@@ -69,7 +69,7 @@ hear-spec =
     part-read-start
     part-read-end
     read-requires
-    unanswered-requires
+    leave-requires
     returns
     answer-record-requires
     same-length
