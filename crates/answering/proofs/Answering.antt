@@ -13,11 +13,12 @@ use Rattle.stages.specs.declared.Load.{Load}
 use Rattle.stages.specs.declared.Port.{Port}
 use Rattle.stages.specs.declared.Session.{Session}
 use Rattle.stages.specs.declared.Stage.{Stage}
-use Rattle.session.specs.declared.Moved.{Moved}
-use Rattle.session.specs.Answers.{firstDue, numberOf, echoUnder, unchanged}
-use Rattle.stages.specs.Items.{Item, wellFormed, portOf, bytesOf}
-use Rattle.stages.specs.Taking.{takes}
-use Rattle.session.specs.Rules.{received, checked, judged, loaded, echoes, passwordMoved, headerMoved, moved, keeps, takenBy, ruled, after}
+use Rattle.rules.specs.declared.Moved.{Moved}
+use Rattle.answers.specs.Answers.{firstDue, numberOf, echoUnder, unchanged}
+use Rattle.items.specs.Items.{Item, wellFormed, portOf, bytesOf}
+use Rattle.items.specs.Taking.{takes}
+use Rattle.rules.specs.Rules.{received, checked, judged, loaded, passwordMoved, headerMoved, moved, keeps, takenBy, ruled, after}
+use Rattle.answers.specs.Answers.{echoes}
 use Rattle.stages.specs.Sound.{sound}
 use Rattle.answering.specs.Rows.{wrongPassword, lengthZero, notInSram, lastStored, takenNumber, numberDue, changesNothing, stageSaid}
 

@@ -10,11 +10,11 @@ use Rattle.password.specs.Passing.{passes}
 use Rattle.sram.specs.Region.{rightSize}
 use Rattle.stages.specs.declared.Session.{Session}
 use Rattle.stages.specs.declared.Stage.{Stage}
-use Rattle.session.specs.declared.Outcome.{Outcome}
-use Rattle.session.specs.Answers.{echoUnder, unchanged}
-use Rattle.stages.specs.Items.{Item, wellFormed, bytesOf}
-use Rattle.stages.specs.Taking.{takes}
-use Rattle.session.specs.Rules.{received, after}
+use Rattle.answers.specs.declared.Outcome.{Outcome}
+use Rattle.answers.specs.Answers.{echoUnder, unchanged}
+use Rattle.items.specs.Items.{Item, wellFormed, bytesOf}
+use Rattle.items.specs.Taking.{takes}
+use Rattle.rules.specs.Rules.{received, after}
 use Rattle.stages.specs.Sound.{sound}
 
 -- 2: "8th password byte in, check not passed"

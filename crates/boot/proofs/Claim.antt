@@ -5,14 +5,14 @@ use mathlib.Core.Path.{_≡_, refl, ap, sym, subst, _∙_}
 use mathlib.Core.List.{List, [], _∷_}
 use mathlib.Core.Bool.{Bool, true, false, cond}
 use lib.ListN.{length, getD}
-use Rattle.boot.specs.declared.Asked.{Asked}
+use Rattle.controls.specs.declared.Asked.{Asked}
 use Rattle.boot.specs.declared.Choice.{Choice}
 use Rattle.boot.specs.declared.Entered.{Entered}
-use Rattle.boot.specs.declared.Look.{Look}
+use Rattle.places.specs.declared.Look.{Look}
 use Rattle.boot.specs.declared.Mode.{Mode}
-use Rattle.boot.specs.declared.Row.{Row}
-use Rattle.boot.specs.Places.{flashPlaces, externalPlaces, good, walk}
-use Rattle.boot.specs.Table.{askedBy, rowFor}
+use Rattle.controls.specs.declared.Row.{Row}
+use Rattle.places.specs.Places.{flashPlaces, externalPlaces, good, walk}
+use Rattle.controls.specs.Table.{askedBy, rowFor}
 use Rattle.boot.specs.Choosing.{allowed, refusal, settled, chosen, bootChoice, numberOf, lookedOf}
 use Rattle.boot.specs.Claim.{ChoiceClaim, Ranked}
 

@@ -9,7 +9,7 @@ use Rattle.boot.specs.declared.Boot.{Boot}
 use Rattle.boot.specs.declared.Choice.{Choice}
 use Rattle.boot.specs.declared.Entered.{Entered}
 use Rattle.boot.specs.declared.Mode.{Mode}
-use Rattle.boot.specs.Places.{flashPlaces, good}
+use Rattle.places.specs.Places.{flashPlaces, good}
 use Rattle.boot.specs.Choosing.{allowed, bootChoice, numberOf, lookedOf}
 
 -- none of the first n places of the flash is good

@@ -1,4 +1,2 @@
-pub mod Places
-pub mod Table
 pub mod Choosing
 pub mod Claim

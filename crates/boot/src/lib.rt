@@ -1,17 +1,11 @@
 // The boot choice (01, "Choosing how to boot"; 000, 16.3.2): from BOOTCFG, the flash, the shadow row and the first bytes of external
 // memory to how the head boots.
 ghost use mathlib.Core.Path.{_≡_};
-ghost use Rattle.boot.specs.Places.{flashPlaces, externalPlaces, good, walk};
-ghost use Rattle.boot.specs.Table.{askedBy, control55AA, rowOf, rowFor};
 ghost use Rattle.boot.specs.Choosing.{allowed, bootFrom, serialBoot, settled, chosen};
 ghost use Rattle.boot.specs.Claim.{ChoiceClaim};
-
-// What BOOTCFG asks for.
-pub enum Asked {
-    Internal,
-    Serial,
-    External,
-}
+use controls::Asked;
+use controls::Row;
+use places::Look;
 
 // How serial boot was entered: by BOOTCFG, or because no good place was found.
 pub enum Entered {
@@ -25,20 +19,6 @@ pub enum Mode {
     Internal,
     External,
     Serial(Entered),
-}
-
-// What a row of the boot table fixes: whether flash and Nexus are on, and the password selected.
-pub struct Row {
-    pub flash: bool,
-    pub nexus: bool,
-    pub password: [u8; 8],
-}
-
-// What the walk over the places found, and how many it looked at.
-pub struct Look {
-    pub found: bool,
-    pub place: u32,
-    pub looked: u8,
 }
 
 // How the head boots, from where, and what is on.
@@ -63,120 +43,6 @@ pub enum Answer {
 pub struct Choice {
     pub answer: Answer,
     pub password: [u8; 8],
-}
-
-// The public password.
-pub const PUBLIC: [u8; 8] = [0xFE, 0xED, 0xFA, 0xCE, 0xCA, 0xFE, 0xBE, 0xEF];
-
-const PLACES: [u32; 6] = [0x0, 0x4000, 0x10000, 0x1C000, 0x20000, 0x30000];
-
-// Whether the 8 bytes of a place lie in the memory, with 0x5A as the second.
-fn is_good(memory: &[u8], place: u32) -> bool
-    ensures { λ r. ⌜ r ≡ good (now (memory .entry)) place ⌝ }
-{
-    let at = place as usize;
-    (at + 8 <= memory.len()) & (octets::byte(memory, at + 1) == 0x5A)
-}
-
-// The first good place of the flash.
-fn first_good(flash: &[u8]) -> Look
-    ensures { λ r. ⌜ r ≡ walk (now (flash .entry)) 0 flashPlaces ⌝ }
-{
-    let mut i: u8 = 0;
-    let look = loop {
-        if 6 <= i {
-            break Look {
-                found: false,
-                place: 0,
-                looked: i,
-            };
-        }
-        let place = PLACES[i as usize];
-        if is_good(flash, place) {
-            break Look {
-                found: true,
-                place: place,
-                looked: i + 1,
-            };
-        }
-        i = i + 1;
-    };
-    look
-}
-
-// What the column BOOTCFG of the table says.
-fn asked_by(bootcfg: u8) -> Asked
-    ensures { λ r. ⌜ r ≡ askedBy bootcfg ⌝ }
-{
-    if bootcfg == 0 {
-        return Asked::Internal;
-    }
-    if bootcfg == 1 {
-        return Asked::Serial;
-    }
-    Asked::External
-}
-
-// Whether the control that matters is 0x55AA.
-fn has_55aa(asked: Asked, shadow: &[u8]) -> bool
-    ensures { λ r. ⌜ r ≡ control55AA asked (now (shadow .entry)) ⌝ }
-{
-    match asked {
-        Asked::Internal => octets::half(shadow, 8) == 0x55AA,
-        Asked::Serial => octets::half(shadow, 10) == 0x55AA,
-        Asked::External => octets::half(shadow, 8) == 0x55AA,
-    }
-}
-
-// The row of the table.
-fn row_of(asked: Asked, is_55aa: bool, shadow: &[u8]) -> Row
-    ensures { λ r. ⌜ r ≡ rowOf asked «is_55aa» (now (shadow .entry)) ⌝ }
-{
-    let flash_password = octets::first_eight(shadow);
-    match asked {
-        Asked::Internal => {
-            if is_55aa {
-                return Row {
-                    flash: true,
-                    nexus: true,
-                    password: PUBLIC,
-                };
-            }
-            Row {
-                flash: true,
-                nexus: false,
-                password: flash_password,
-            }
-        }
-        Asked::Serial => {
-            if is_55aa {
-                return Row {
-                    flash: true,
-                    nexus: false,
-                    password: flash_password,
-                };
-            }
-            Row {
-                flash: false,
-                nexus: true,
-                password: PUBLIC,
-            }
-        }
-        Asked::External => {
-            if is_55aa {
-                return Row {
-                    flash: true,
-                    nexus: true,
-                    password: PUBLIC,
-                };
-            }
-            Row {
-                flash: false,
-                nexus: true,
-                password: PUBLIC,
-            }
-        }
-    }
 }
 
 // Whether the sizes of what is handed in are allowed.
@@ -240,35 +106,17 @@ fn settle(mode: Mode, entered: Entered, memory: &[u8], look: Look, row: Row) -> 
     serial_boot(entered, look.looked, row)
 }
 
-// The row that holds, by BOOTCFG and the shadow row's controls.
-fn row_for(asked: Asked, shadow: &[u8]) -> Row
-    ensures { λ r. ⌜ r ≡ rowFor asked (now (shadow .entry)) ⌝ }
-{
-    row_of(asked, has_55aa(asked, shadow), shadow)
-}
-
-// The walk over the one place of the external head.
-fn look_at_external(external: &[u8]) -> Look
-    ensures { λ r. ⌜ r ≡ walk (now (external .entry)) 0 externalPlaces ⌝ }
-{
-    Look {
-        found: is_good(external, 0),
-        place: 0,
-        looked: 1,
-    }
-}
-
 // How the head boots, once the sizes are allowed.
 fn chosen_for(asked: Asked, flash: &[u8], shadow: &[u8], external: &[u8]) -> Choice
     ensures { λ r. ⌜ r ≡ chosen asked (now (flash .entry)) (now (shadow .entry)) (now (external .entry)) ⌝ }
 {
-    let row = row_for(asked, shadow);
+    let row = controls::row_for(asked, shadow);
     match asked {
         Asked::Internal => settle(
             Mode::Internal,
             Entered::FromInternal,
             flash,
-            first_good(flash),
+            places::first_good(flash),
             row,
         ),
         Asked::Serial => serial_boot(Entered::Directly, 0, row),
@@ -276,7 +124,7 @@ fn chosen_for(asked: Asked, flash: &[u8], shadow: &[u8], external: &[u8]) -> Cho
             Mode::External,
             Entered::FromExternal,
             external,
-            look_at_external(external),
+            places::look_at_external(external),
             row,
         ),
     }
@@ -287,7 +135,7 @@ pub fn choose(bootcfg: u8, flash: &[u8], shadow: &[u8], external: &[u8]) -> Choi
     ensures { λ r. ⌜ ChoiceClaim bootcfg (now (flash .entry)) (now (shadow .entry)) (now (external .entry)) r ⌝ }
 {
     if is_allowed(bootcfg, flash, shadow, external) {
-        return chosen_for(asked_by(bootcfg), flash, shadow, external);
+        return chosen_for(controls::asked_by(bootcfg), flash, shadow, external);
     }
     Choice {
         answer: Answer::Refused,

@@ -1,23 +1,22 @@
 -- What follows where nothing is due, and what an item leaves.
 use Prim.Native.Nat.{ℕ}
 use native.Mathlib.Omega.{arith}
-use mathlib.Core.Path.{_≡_, refl, sym, ap, _∙_}
+use mathlib.Core.Path.{_≡_, refl, ap, _∙_}
 use mathlib.Core.List.{List, []}
 use mathlib.Core.Bool.{Bool, true, false, cond}
 use borrow.Author.Tests.{eqb-true}
 use lib.Dec.{eqb}
 use lib.ListN.{length}
-use Rattle.session.specs.declared.Due.{Due}
-use Rattle.session.specs.declared.Reply.{Reply}
-use Rattle.session.specs.Answers.{After, asAfter, firstDue}
-use Rattle.session.proofs.Laws.{nothing-due, fault-some}
-use Rattle.numbers.specs.Reading.{sessionIn}
-use Rattle.numbers.proofs.Lengths.{sound-length}
-use Rattle.merging.specs.Listing.{itemsOf, listFits, ListAfter, listDue, afterList}
+use Rattle.answers.specs.declared.Due.{Due}
+use Rattle.answers.specs.declared.Reply.{Reply}
+use Rattle.answers.specs.Answers.{After, asAfter, firstDue}
+use Rattle.answers.proofs.Laws.{nothing-due, fault-some}
+use Rattle.encoding.specs.Reading.{sessionIn}
+use Rattle.encoding.proofs.Lengths.{sound-length}
 use Rattle.calls.specs.Crossing.{asReply, leaves, dueNumber, itemDue}
 
 -- numbers of a session for which nothing is due
-due-length : (session sram : List ℕ) (formed : Bool) → firstDue (sessionIn session) sram formed ≡ Due.Nothing → length session ≡ 24
+pub due-length : (session sram : List ℕ) (formed : Bool) → firstDue (sessionIn session) sram formed ≡ Due.Nothing → length session ≡ 24
 due-length session sram formed e = sound-length session (nothing-due (sessionIn session) sram formed e .0 .fine)
 
 -- an item for which nothing is due has room for its session and its answer
@@ -33,23 +32,6 @@ item-room session sram formed room e = by (firstDue (sessionIn session) sram for
     by : (due : Due) → firstDue (sessionIn session) sram formed ≡ due → dueNumber due room ≡ 0
         → (length session ≡ 24) × (room ≡ 13)
     by Due.Nothing none e = (due-length session sram formed none, eqb-true room 13 (nine (eqb room 13) e))
-    by (Due.Refused fault) is-due e = absurd (fault-some fault e)
-
--- a list that gets 0 has room for its session
-pub list-length : (session sram kinds identifiers counts bytes answers : List ℕ) (leaves : ListAfter)
-    → leaves ≡ afterList (sessionIn session) sram kinds identifiers counts bytes answers
-    → leaves .number ≡ 0
-    → length session ≡ 24
-unfolding afterList
-list-length session sram kinds identifiers counts bytes answers leaves e zero =
-    by (firstDue (sessionIn session) sram (listFits kinds identifiers counts (length bytes) (length answers))) refl
-    (sym (ap (λ (l : ListAfter). l .number) e) ∙ zero)
-  where
-    by : (due : Due)
-        → firstDue (sessionIn session) sram (listFits kinds identifiers counts (length bytes) (length answers)) ≡ due
-        → listDue due (sessionIn session) sram (itemsOf kinds identifiers counts bytes) answers .number ≡ 0
-        → length session ≡ 24
-    by Due.Nothing none e = due-length session sram (listFits kinds identifiers counts (length bytes) (length answers)) none
     by (Due.Refused fault) is-due e = absurd (fault-some fault e)
 
 -- what an item leaves, from what is written of its reply and what it leaves of SRAM

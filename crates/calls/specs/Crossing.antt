@@ -1,21 +1,17 @@
--- The calls of a session as C sees them (include/boot_assist.h): sessions and answers are lists of numbers, and memory is lent.
+-- The item calls as C sees them (include/boot_assist.h): sessions and answers are lists of numbers, and memory is lent.
 use Prim.Native.Nat.{ℕ}
 use mathlib.Core.List.{List}
-use mathlib.Core.Bool.{Bool, cond, _&&_}
-use lib.Dec.{leb, eqb}
+use mathlib.Core.Bool.{Bool, cond}
+use lib.Dec.{eqb}
 use lib.ListN.{length}
-use Rattle.octets.specs.Read.{firstEight}
 use Rattle.stages.specs.declared.Session.{Session}
-use Rattle.session.specs.declared.Due.{Due}
-use Rattle.session.specs.Answers.{After, faultNumber, firstDue}
-use Rattle.stages.specs.declared.Start.{Start}
-use Rattle.stages.specs.Fresh.{freshIn}
-use Rattle.stages.specs.Items.{Item, wellFormed}
-use Rattle.session.specs.Rules.{after}
-use Rattle.numbers.specs.Writing.{sessionNumbers, answerNumbers}
-use Rattle.numbers.specs.Reading.{sessionIn}
-use Rattle.choices.specs.Numbers.{modeOf}
-use Rattle.merging.specs.Listing.{ListAfter, afterList}
+use Rattle.answers.specs.declared.Due.{Due}
+use Rattle.answers.specs.Answers.{After, faultNumber, firstDue}
+use Rattle.items.specs.Items.{Item, wellFormed}
+use Rattle.rules.specs.Rules.{after}
+use Rattle.encoding.specs.Writing.{sessionNumbers}
+use Rattle.numbers.specs.Writing.{answerNumbers}
+use Rattle.encoding.specs.Reading.{sessionIn}
 
 -- a call: its number, and the numbers of the session, SRAM and the numbers of the answer or the answers as it leaves them
 pub record Reply : Type 0 where
@@ -48,33 +44,3 @@ itemLeaves due session sram item answer =
 unfoldable pub itemReply : List ℕ → List ℕ → Item → List ℕ → Reply
 itemReply session sram item answer =
     itemLeaves (itemDue (sessionIn session) sram (wellFormed item) (length answer)) session sram item answer
-
--- what a list leaves: a refused one nothing but its number
-abbrev pub listLeaves : List ℕ → ListAfter → Reply
-listLeaves session next =
-    asReply (next .number) (cond (eqb (next .number) 0) (sessionNumbers (next .session)) session) (next .sram) (next .answers)
-
--- a list of items
-unfoldable pub listReply : List ℕ → List ℕ → List ℕ → List ℕ → List ℕ → List ℕ → List ℕ → Reply
-listReply session sram kinds identifiers counts bytes answers =
-    listLeaves session (afterList (sessionIn session) sram kinds identifiers counts bytes answers)
-
--- a fresh session: its number, and its numbers
-pub record FreshReply : Type 0 where
-  pub number : ℕ
-  pub session : List ℕ
-
-abbrev pub asFreshReply : ℕ → List ℕ → FreshReply
-asFreshReply number session = record { number = number; session = session }
-
--- what a fresh session leaves: only serial boot gives one
-abbrev pub freshLeaves : Start → List ℕ → FreshReply
-freshLeaves start session =
-    cond (start .serial) (asFreshReply 0 (sessionNumbers (start .session))) (asFreshReply 9 session)
-
--- for the number of a way to boot; 9 for a number that no way has, a password of another length than 8, or a session that has not 24 places
-unfoldable pub sessionReply : ℕ → List ℕ → List ℕ → FreshReply
-sessionReply mode password session =
-    cond (leb mode 4 && eqb (length password) 8 && eqb (length session) 24)
-    (freshLeaves (freshIn (modeOf mode) (firstEight password)) session)
-    (asFreshReply 9 session)

@@ -1,26 +1,17 @@
-// The calls of a session on numbers and lent memory, as the C interface has them (include/boot_assist.h).
+// The item calls on numbers and lent memory, as the C interface has them (include/boot_assist.h).
 ghost use mathlib.Core.Path.{_≡_};
 ghost use mathlib.Core.Bool.{not};
 ghost use mathlib.Core.List.{[]};
 ghost use lib.Dec.{eqb};
 ghost use lib.ListN.{length};
-ghost use Rattle.session.specs.Answers.{asAfter};
-ghost use Rattle.stages.specs.Items.{Item};
-ghost use Rattle.numbers.specs.Writing.{sessionNumbers};
-ghost use Rattle.calls.specs.Crossing.{asReply, itemDue, itemReply, leaves, listReply, asFreshReply, sessionReply};
-use session::Due;
-use session::Outcome;
-use session::Reply;
+ghost use Rattle.answers.specs.Answers.{asAfter};
+ghost use Rattle.items.specs.Items.{Item};
+ghost use Rattle.encoding.specs.Writing.{sessionNumbers};
+ghost use Rattle.calls.specs.Crossing.{asReply, itemDue, itemReply, leaves};
+use answers::Due;
+use answers::Outcome;
+use answers::Reply;
 use stages::Session;
-
-// Writes the numbers of a session.
-fn put_session(out: &mut [u32], session: Session)
-    requires { ⌜ length (now out) ≡ 24 ⌝ }
-    ensures { λ _. ⌜ now (out .exit) ≡ sessionNumbers session ⌝ }
-{
-    let written = numbers::session_numbers(session);
-    octets::fill_words(out, &written[..]);
-}
 
 // Writes the numbers of a reply, and returns its number.
 fn put_reply(session: &mut [u32], answer: &mut [u32], reply: Reply) -> u8
@@ -31,20 +22,20 @@ fn put_reply(session: &mut [u32], answer: &mut [u32], reply: Reply) -> u8
 {
     let said = reply.answer;
     let next = reply.session;
-    put_session(session, next);
+    encoding::put_session(session, next);
     let written = numbers::answer_numbers(said);
-    octets::fill_words(answer, &written[..]);
+    filling::fill_words(answer, &written[..]);
     let outcome = said.outcome;
-    numbers::outcome_number(outcome)
+    answers::outcome_number(outcome)
 }
 
 // What is due before an item: 7, then 8, then 6, then 9 for an answer that has not 13 places; or 0.
 fn item_due(session: Session, sram: &[u8], formed: bool, room: usize) -> u8
     ensures { λ r. ⌜ r ≡ itemDue session (now (sram .entry)) formed room ⌝ }
 {
-    let due = session::first_due(session, sram, formed);
+    let due = answers::first_due(session, sram, formed);
     if let Due::Refused(fault) = due {
-        return numbers::outcome_number(Outcome::Refused(fault));
+        return answers::outcome_number(Outcome::Refused(fault));
     }
     if room == 13 {
         return 0;
@@ -65,8 +56,8 @@ pub fn frame(
         ≡ itemReply (now (session .entry)) (now (sram .entry)) (Item.Frame identifier (now («data» .entry))) (now (answer .entry))
         ⌝ }
 {
-    let read = numbers::read_session(session);
-    let formed = stages::is_formed(identifier, data);
+    let read = decoding::read_session(session);
+    let formed = items::is_formed(identifier, data);
     let due = item_due(read, sram, formed, answer.len());
     if due != 0 {
         return due;
@@ -82,66 +73,11 @@ pub fn byte(session: &mut [u32], sram: &mut [u8], value: u8, mark: u8, answer: &
         ≡ itemReply (now (session .entry)) (now (sram .entry)) (Item.Byte value (not (eqb mark 0))) (now (answer .entry))
         ⌝ }
 {
-    let read = numbers::read_session(session);
+    let read = decoding::read_session(session);
     let due = item_due(read, sram, true, answer.len());
     if due != 0 {
         return due;
     }
     let reply = session::byte(read, sram, value, mark != 0);
     put_reply(session, answer, reply)
-}
-
-// A list of items.
-pub fn list(
-    session: &mut [u32],
-    sram: &mut [u8],
-    kinds: &[u8],
-    identifiers: &[u32],
-    counts: &[u32],
-    bytes: &[u8],
-    answers: &mut [u32],
-) -> u8
-    ensures { λ r. ⌜
-        asReply r (now (session .exit)) (now (sram .exit)) (now (answers .exit))
-        ≡ listReply (now (session .entry)) (now (sram .entry)) (now (kinds .entry)) (now (identifiers .entry)) (now (counts .entry)) (now (bytes .entry)) (now (answers .entry))
-        ⌝ }
-{
-    let reply = merging::run(
-        numbers::read_session(session),
-        sram,
-        kinds,
-        identifiers,
-        counts,
-        bytes,
-        answers,
-    );
-    let number = reply.number;
-    if number != 0 {
-        return number;
-    }
-    let last = reply.session;
-    put_session(session, last);
-    0
-}
-
-// A fresh session, from the number of a way to boot and the password selected.
-pub fn fresh(mode: u8, password: &[u8], session: &mut [u32]) -> u8
-    ensures { λ r. ⌜ asFreshReply r (now (session .exit)) ≡ sessionReply mode (now (password .entry)) (now (session .entry)) ⌝ }
-{
-    if 4 < mode {
-        return 9;
-    }
-    if password.len() != 8 {
-        return 9;
-    }
-    if session.len() != 24 {
-        return 9;
-    }
-    let start = stages::fresh_in(choices::mode_of(mode), octets::first_eight(password));
-    if start.serial {
-        let fresh = start.session;
-        put_session(session, fresh);
-        return 0;
-    }
-    9
 }

@@ -1,13 +1,11 @@
--- The numbers that stand for the boot choice and the MMU rows in the C interface (include/boot_assist.h).
+-- The numbers that stand for the boot choice in the C interface (include/boot_assist.h).
 use Prim.Native.Nat.{ℕ}
-use mathlib.Core.List.{List, [], _∷_, _++_}
+use mathlib.Core.List.{List, [], _∷_}
 use mathlib.Core.Bool.{cond}
 use lib.Dec.{eqb}
 use Rattle.boot.specs.declared.Boot.{Boot}
 use Rattle.boot.specs.declared.Entered.{Entered}
 use Rattle.boot.specs.declared.Mode.{Mode}
-use Rattle.mmu.specs.declared.Header.{Header}
-use Rattle.mmu.specs.declared.Row.{Row}
 use Rattle.numbers.specs.Writing.{bit}
 
 -- how the head boots, as a number from 0 to 4
@@ -27,10 +25,6 @@ modeOf number =
     (cond (eqb number 3) (Mode.Serial Entered.FromInternal)
     (Mode.Serial Entered.FromExternal))))
 
--- the header: 0 not accepted, 1 accepted with VLE 0, 2 accepted with VLE 1
-abbrev pub headerOf : ℕ → Header
-headerOf number = cond (eqb number 0) Header.NotAccepted (Header.Accepted (eqb number 2))
-
 -- the eight numbers of a choice
 abbrev pub bootNumbers : Boot → List ℕ
 bootNumbers boot =
@@ -43,21 +37,3 @@ bootNumbers boot =
     ∷ bit (boot .flash)
     ∷ bit (boot .nexus)
     ∷ []
-
--- the eight numbers of a row
-abbrev pub rowNumbers : Row → List ℕ
-rowNumbers row =
-    row .logical
-    ∷ row .physical
-    ∷ row .size
-    ∷ bit (row .inhibited)
-    ∷ bit (row .guarded)
-    ∷ bit (row .bigendian)
-    ∷ bit (row .global)
-    ∷ bit (row .vle)
-    ∷ []
-
--- the rows, one after the other
-abbrev pub tableNumbers : List Row → List ℕ
-tableNumbers [] = []
-tableNumbers (row ∷ rows) = rowNumbers row ++ tableNumbers rows

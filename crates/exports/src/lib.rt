@@ -2,10 +2,12 @@
 ghost use mathlib.Core.Path.{_≡_};
 ghost use mathlib.Core.Bool.{not};
 ghost use lib.Dec.{eqb};
-ghost use Rattle.stages.specs.Items.{Item};
-ghost use Rattle.choices.specs.Calls.{asChoiceReply, choiceAnswer, asRowsReply, rowsAnswer};
+ghost use Rattle.items.specs.Items.{Item};
+ghost use Rattle.choices.specs.Calls.{asChoiceReply, choiceAnswer};
+ghost use Rattle.mapping.specs.Calls.{asRowsReply, rowsAnswer};
 ghost use Rattle.capture.specs.Located.{asLocated, locatedAt};
-ghost use Rattle.calls.specs.Crossing.{asReply, itemReply, listReply, asFreshReply, sessionReply};
+ghost use Rattle.calls.specs.Crossing.{asReply, itemReply};
+ghost use Rattle.runs.specs.Crossing.{listReply, asFreshReply, sessionReply};
 
 // The boot choice.
 #[no_mangle]
@@ -30,7 +32,7 @@ pub extern "C" fn boot_assist_choice(
 pub extern "C" fn boot_assist_rows(mode: u8, header: u8, rows: &mut [u32]) -> u8
     ensures { λ r. ⌜ asRowsReply r (now (rows .exit)) ≡ rowsAnswer mode header (now (rows .entry)) ⌝ }
 {
-    choices::rows(mode, header, rows)
+    mapping::rows(mode, header, rows)
 }
 
 // A fresh session, from the mode and the password of a serial choice.
@@ -38,7 +40,7 @@ pub extern "C" fn boot_assist_rows(mode: u8, header: u8, rows: &mut [u32]) -> u8
 pub extern "C" fn boot_assist_session(mode: u8, password: &[u8], session: &mut [u32]) -> u8
     ensures { λ r. ⌜ asFreshReply r (now (session .exit)) ≡ sessionReply mode (now (password .entry)) (now (session .entry)) ⌝ }
 {
-    calls::fresh(mode, password, session)
+    runs::fresh(mode, password, session)
 }
 
 // One CAN frame.
@@ -91,7 +93,7 @@ pub extern "C" fn boot_assist_list(
         ≡ listReply (now (session .entry)) (now (sram .entry)) (now (kinds .entry)) (now (identifiers .entry)) (now (counts .entry)) (now (bytes .entry)) (now (answers .entry))
         ⌝ }
 {
-    calls::list(session, sram, kinds, identifiers, counts, bytes, answers)
+    runs::list(session, sram, kinds, identifiers, counts, bytes, answers)
 }
 
 // The record at a place of a capture.

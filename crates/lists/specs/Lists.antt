@@ -5,13 +5,13 @@ use mathlib.Core.List.{List, [], _∷_, _++_, map}
 use mathlib.Core.Bool.{true, false}
 use mathlib.Core.Option.{none}
 use lib.ListN.{take, replicate}
-use Rattle.boot.specs.Table.{publicPassword}
-use Rattle.session.specs.declared.Answer.{Answer}
+use Rattle.controls.specs.Table.{publicPassword}
+use Rattle.answers.specs.declared.Answer.{Answer}
 use Rattle.stages.specs.declared.Port.{Port}
 use Rattle.stages.specs.declared.Stage.{Stage}
-use Rattle.session.specs.Answers.{numberOf}
-use Rattle.stages.specs.Fresh.{freshSession}
-use Rattle.stages.specs.Items.{Item}
+use Rattle.answers.specs.Answers.{numberOf}
+use Rattle.starts.specs.Fresh.{freshSession}
+use Rattle.items.specs.Items.{Item}
 use Rattle.merging.specs.Running.{Run, ran, jumpsIn, pickedPort, streamOf}
 use Rattle.merging.specs.Plain.{plainOf, complete}
 use Rattle.trials.specs.Trials.{Case, trial, zeroes}

@@ -4,10 +4,10 @@ use mathlib.Core.Path.{_≡_, refl, sym, ap, _∙_}
 use mathlib.Core.List.{List}
 use lib.ListN.{length}
 use Rattle.stages.specs.declared.Session.{Session}
-use Rattle.stages.specs.Fresh.{freshSession}
-use Rattle.session.specs.declared.Due.{Due}
-use Rattle.session.specs.Answers.{faultNumber, firstDue}
-use Rattle.session.proofs.Laws.{nothing-due, fault-some}
+use Rattle.starts.specs.Fresh.{freshSession}
+use Rattle.answers.specs.declared.Due.{Due}
+use Rattle.answers.specs.Answers.{faultNumber, firstDue}
+use Rattle.answers.proofs.Laws.{nothing-due, fault-some}
 use Rattle.merging.specs.Running.{ran}
 use Rattle.merging.specs.Listing.{itemsOf, listFits, ListAfter, asListAfter, listRan, afterList, ListMerged, ListClaim}
 use Rattle.merging.proofs.Stream.{demand-three}

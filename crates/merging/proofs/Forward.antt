@@ -17,21 +17,23 @@ use Rattle.sram.specs.Region.{size, rightSize, stored}
 use Rattle.sram.proofs.Laws.{lies-part, stored-none, stored-join}
 use Rattle.stages.specs.declared.Jump.{Jump}
 use Rattle.stages.specs.declared.Load.{Load}
-use Rattle.session.specs.declared.Moved.{Moved}
-use Rattle.session.specs.declared.Outcome.{Outcome}
-use Rattle.session.specs.declared.Fault.{Fault}
+use Rattle.rules.specs.declared.Moved.{Moved}
+use Rattle.answers.specs.declared.Outcome.{Outcome}
+use Rattle.answers.specs.declared.Fault.{Fault}
 use Rattle.stages.specs.declared.Port.{Port}
 use Rattle.stages.specs.declared.Refusal.{Refusal}
 use Rattle.stages.specs.declared.Session.{Session}
 use Rattle.stages.specs.declared.Stage.{Stage}
-use Rattle.session.specs.Answers.{notTaken}
-use Rattle.stages.specs.Fresh.{freshSession}
-use Rattle.stages.specs.Items.{Item, wellFormed, portOf, bytesOf, opens}
+use Rattle.answers.specs.Answers.{notTaken}
+use Rattle.starts.specs.Fresh.{freshSession}
+use Rattle.items.specs.Items.{Item, wellFormed, portOf, bytesOf, opens}
 use Rattle.stages.specs.Sound.{soundIn, sound, loadSound}
-use Rattle.stages.specs.Taking.{cleanByte, takes}
-use Rattle.session.specs.Rules.{moved, keeps, takenBy, enters, received, holds, passwordMoved, headerMoved, checked, judged, loaded, loadFrom, jumpOf, advanced}
-use Rattle.stages.proofs.Laws.{load-fits, taken-inside, eight-long}
-use Rattle.session.proofs.Laws.{Accepted, after-taken, after-passed, kept, received-all}
+use Rattle.items.specs.Taking.{cleanByte, takes}
+use Rattle.rules.specs.Rules.{moved, keeps, takenBy, enters, received, holds, passwordMoved, headerMoved, checked, judged, loaded, loadFrom, jumpOf, advanced}
+use Rattle.stages.proofs.Laws.{load-fits}
+use Rattle.items.proofs.Laws.{taken-inside, eight-long}
+use Rattle.answers.proofs.Laws.{Accepted}
+use Rattle.rules.proofs.Laws.{after-taken, after-passed, kept, received-all}
 use Rattle.merging.specs.Running.{Run, ran, pickedPort, jumpsOf, jumpsIn}
 use Rattle.merging.specs.Plain.{cleanBytes, dataBytes, headerBytes, frameBytes, plainFrom, headerIn, announced, complete, jumpIn}
 use Rattle.merging.proofs.Splitting.{short, unpassed, header-bytes, all-there, announced-there}

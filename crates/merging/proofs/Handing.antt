@@ -7,19 +7,19 @@ use mathlib.Core.Path.{_≡_, refl, sym, ap, _∙_}
 use mathlib.Core.List.{List, [], _∷_, _++_, append-assoc, append-nil}
 use mathlib.Core.Bool.{true, _&&_, and-eq-true-iff}
 use borrow.Author.Tests.{eqb-true, leb-true}
-use Rattle.octets.specs.Write.{filled}
-use Rattle.octets.proofs.Lending.{lent, back, put-back}
+use Rattle.filling.specs.Write.{filled}
+use Rattle.filling.proofs.Lending.{lent, back, put-back}
 use lib.Dec.{leb, eqb}
 use lib.ListN.{length, take, drop, getD, length-append, length-drop, drop-of-length-le}
 use lib.Seq.{drop-cons, drop-drop, getD-drop, take-at, take-all, length-take-le}
-use Rattle.session.specs.declared.Answer.{Answer}
-use Rattle.session.specs.declared.Outcome.{Outcome}
-use Rattle.session.specs.declared.Reply.{Reply}
+use Rattle.answers.specs.declared.Answer.{Answer}
+use Rattle.answers.specs.declared.Reply.{Reply}
 use Rattle.stages.specs.declared.Session.{Session}
-use Rattle.session.specs.Answers.{asAfter}
-use Rattle.stages.specs.Items.{Item, itemOf}
-use Rattle.session.specs.Rules.{after}
-use Rattle.numbers.specs.Writing.{jumpNumbers, answerNumbers}
+use Rattle.answers.specs.Answers.{asAfter}
+use Rattle.items.specs.Items.{Item, itemOf}
+use Rattle.rules.specs.Rules.{after}
+use Rattle.numbers.specs.Writing.{answerNumbers}
+use Rattle.numbers.proofs.Whole.{answer-length}
 use Rattle.merging.specs.Running.{ran}
 use Rattle.merging.specs.Listing.{itemsOf, kindFits, partsFit, listFits, answerRows, asListAfter, listRan}
 
@@ -48,16 +48,6 @@ module _ (kinds counts : List ℕ) (i : ℕ) (h : i < length kinds) where
         drop-drop (getD counts i 0) at bytes,
         add-one,
       )
-
-jump-length : (outcome : Outcome) → length (jumpNumbers outcome) ≡ 2
-jump-length Outcome.Taken = refl
-jump-length Outcome.Ignored = refl
-jump-length (Outcome.Stops refusal) = refl
-jump-length (Outcome.Jumps jump) = refl
-jump-length (Outcome.Refused fault) = refl
-
-pub answer-length : (answer : Answer) → length (answerNumbers answer) ≡ 13
-answer-length answer = rw (jump-length (answer .outcome))
 
 -- the answers from a place on, lent, filled with an answer's numbers and given back
 pub answer-back : (answers : List ℕ) (at : ℕ) (answer : Answer) → at + 13 ≤ length answers

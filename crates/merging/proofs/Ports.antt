@@ -10,19 +10,20 @@ use lib.ListN.{length}
 use Rattle.header.specs.declared.Verdict.{Verdict}
 use Rattle.header.specs.Reading.{verdictOf}
 use Rattle.password.specs.Passing.{passes}
-use Rattle.session.specs.declared.Answer.{Answer}
+use Rattle.answers.specs.declared.Answer.{Answer}
 use Rattle.stages.specs.declared.Load.{Load}
 use Rattle.stages.specs.declared.Port.{Port}
 use Rattle.stages.specs.declared.Session.{Session}
 use Rattle.stages.specs.declared.Stage.{Stage}
-use Rattle.session.specs.Answers.{notTaken, unchanged}
-use Rattle.stages.specs.Items.{Item, portOf, bytesOf, opens}
-use Rattle.stages.specs.Taking.{takes}
-use Rattle.session.specs.Rules.{moved, keeps, takenBy, after, received, passwordMoved, headerMoved, checked, judged, loaded}
-use Rattle.stages.proofs.Laws.{taken-formed, eight-long}
-use Rattle.session.proofs.Laws.{Accepted, after-taken, after-passed, kept, received-all}
+use Rattle.answers.specs.Answers.{notTaken, unchanged}
+use Rattle.items.specs.Items.{Item, portOf, bytesOf, opens}
+use Rattle.items.specs.Taking.{takes}
+use Rattle.rules.specs.Rules.{moved, keeps, takenBy, after, received, passwordMoved, headerMoved, checked, judged, loaded}
+use Rattle.items.proofs.Laws.{taken-formed, eight-long}
+use Rattle.answers.proofs.Laws.{Accepted}
+use Rattle.rules.proofs.Laws.{after-taken, after-passed, kept, received-all}
 use Rattle.merging.specs.Running.{ran, pickedPort, samePort, inStream, only, answersTo}
-use Rattle.stages.specs.Fresh.{freshSession}
+use Rattle.starts.specs.Fresh.{freshSession}
 use Rattle.merging.specs.Merging.{Passed}
 
 -- the stage takes items of no other port than this one

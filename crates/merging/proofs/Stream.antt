@@ -9,11 +9,11 @@ use lib.ListN.{length}
 use Rattle.header.specs.Reading.{headerOf}
 use Rattle.sram.specs.Region.{rightSize}
 use Rattle.stages.specs.declared.Port.{Port}
-use Rattle.stages.specs.Fresh.{freshSession}
-use Rattle.stages.specs.Items.{Item, wellFormed, eightUnder, dataUnder}
+use Rattle.starts.specs.Fresh.{freshSession}
+use Rattle.items.specs.Items.{Item, wellFormed, eightUnder, dataUnder}
 use Rattle.stages.specs.Sound.{sound}
-use Rattle.stages.proofs.Laws.{eight-formed, data-formed}
-use Rattle.session.proofs.Laws.{Accepted}
+use Rattle.items.proofs.Laws.{eight-formed, data-formed}
+use Rattle.answers.proofs.Laws.{Accepted}
 use Rattle.merging.specs.Running.{pickedPort, inStream, only}
 use Rattle.merging.specs.Plain.{cleanBytes, dataBytes, headerBytes, frameBytes, plainFrom}
 use Rattle.merging.specs.Merging.{Merging}

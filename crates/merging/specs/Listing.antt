@@ -5,12 +5,12 @@ use mathlib.Core.List.{List, [], _∷_, _++_}
 use mathlib.Core.Bool.{Bool, _&&_, _||_}
 use lib.Dec.{leb, eqb}
 use lib.ListN.{length, take, drop, getD}
-use Rattle.session.specs.declared.Answer.{Answer}
-use Rattle.session.specs.declared.Due.{Due}
+use Rattle.answers.specs.declared.Answer.{Answer}
+use Rattle.answers.specs.declared.Due.{Due}
 use Rattle.stages.specs.declared.Session.{Session}
-use Rattle.stages.specs.Fresh.{freshSession}
-use Rattle.stages.specs.Items.{Item, itemOf}
-use Rattle.session.specs.Answers.{faultNumber, firstDue}
+use Rattle.starts.specs.Fresh.{freshSession}
+use Rattle.items.specs.Items.{Item, itemOf}
+use Rattle.answers.specs.Answers.{faultNumber, firstDue}
 use Rattle.numbers.specs.Writing.{answerNumbers}
 use Rattle.merging.specs.Running.{Run, ran}
 use Rattle.merging.specs.Merging.{Merging}

@@ -5,10 +5,10 @@ use mathlib.Core.List.{List, [], _∷_, _++_}
 use mathlib.Core.Bool.{true, false, cond}
 use lib.ListN.{length}
 use Rattle.sram.specs.Region.{rightSize, stored}
-use Rattle.stages.specs.Fresh.{freshSession}
-use Rattle.session.specs.Answers.{notTaken, unchanged}
-use Rattle.stages.specs.Items.{Item}
-use Rattle.session.specs.Rules.{after}
+use Rattle.starts.specs.Fresh.{freshSession}
+use Rattle.answers.specs.Answers.{notTaken, unchanged}
+use Rattle.items.specs.Items.{Item}
+use Rattle.rules.specs.Rules.{after}
 use Rattle.merging.specs.Running.{Run, ran, pickedPort, inStream, streamOf, answersTo, jumpsIn}
 use Rattle.merging.specs.Plain.{plainOf, headerIn, announced, complete, jumpIn}
 

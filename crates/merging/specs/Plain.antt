@@ -10,7 +10,7 @@ use Rattle.header.specs.Reading.{headerOf, fits}
 use Rattle.password.specs.Passing.{passes}
 use Rattle.stages.specs.declared.Jump.{Jump}
 use Rattle.stages.specs.declared.Port.{Port}
-use Rattle.stages.specs.Items.{Item, eightUnder, dataUnder}
+use Rattle.items.specs.Items.{Item, eightUnder, dataUnder}
 use Rattle.merging.specs.Running.{pickedPort, streamOf}
 
 -- "Serial: take the clean bytes in order."

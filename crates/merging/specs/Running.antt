@@ -3,13 +3,13 @@ use Prim.Native.Nat.{ℕ}
 use mathlib.Core.List.{List, [], _∷_, _++_}
 use mathlib.Core.Bool.{Bool, true, false, cond, _&&_}
 use mathlib.Core.Option.{Option, none, some}
-use Rattle.session.specs.declared.Answer.{Answer}
+use Rattle.answers.specs.declared.Answer.{Answer}
 use Rattle.stages.specs.declared.Jump.{Jump}
-use Rattle.session.specs.declared.Outcome.{Outcome}
+use Rattle.answers.specs.declared.Outcome.{Outcome}
 use Rattle.stages.specs.declared.Port.{Port}
 use Rattle.stages.specs.declared.Session.{Session}
-use Rattle.stages.specs.Items.{Item, wellFormed, portOf, opens}
-use Rattle.session.specs.Rules.{after}
+use Rattle.items.specs.Items.{Item, wellFormed, portOf, opens}
+use Rattle.rules.specs.Rules.{after}
 
 -- a list of calls: the answers in order, and the session and SRAM that the last call leaves
 pub record Run : Type 0 where

@@ -8,10 +8,10 @@ ghost use Rattle.numbers.specs.Writing.{answerNumbers};
 ghost use Rattle.merging.specs.Merging.{EveryList};
 ghost use Rattle.merging.specs.Running.{ran};
 ghost use Rattle.merging.specs.Listing.{itemsOf, kindFits, partsFit, listFits, asListAfter, listRan, ListClaim};
-use session::Answer;
-use session::Due;
-use session::Outcome;
-use session::Reply;
+use answers::Answer;
+use answers::Due;
+use answers::Outcome;
+use answers::Reply;
 use stages::Session;
 
 // The number of the call, and the session after it.
@@ -74,7 +74,7 @@ fn put_answer(answers: &mut [u32], i: usize, answer: Answer)
 {
     let row = numbers::answer_numbers(answer);
     let at = 13 * i;
-    octets::fill_words(&mut answers[at..], &row[..]);
+    filling::fill_words(&mut answers[at..], &row[..]);
 }
 
 // Hands in the items of lists that fit, one after another.
@@ -98,7 +98,7 @@ fn run_items(
     let mut i: usize = 0;
     while i < kinds.len() {
         let end = at + counts[i] as usize;
-        let reply = session::hand_in(current, sram, kinds[i], identifiers[i], &bytes[at..end]);
+        let reply = rules::hand_in(current, sram, kinds[i], identifiers[i], &bytes[at..end]);
         let answer = reply.answer;
         put_answer(answers, i, answer);
         let next = reply.session;
@@ -125,10 +125,10 @@ pub fn run(
         ⌝ }
 {
     let formed = list_fits(kinds, identifiers, counts, bytes.len(), answers.len());
-    let due = session::first_due(session, sram, formed);
+    let due = answers::first_due(session, sram, formed);
     if let Due::Refused(fault) = due {
         return ListReply {
-            number: numbers::outcome_number(Outcome::Refused(fault)),
+            number: answers::outcome_number(Outcome::Refused(fault)),
             session: session,
         };
     }

@@ -1,56 +1,15 @@
--- Sessions and answers as lists of numbers, in the order of include/boot_assist.h.
+-- Answers as lists of numbers, in the order of include/boot_assist.h.
 use Prim.Native.Nat.{ℕ}
 use mathlib.Core.List.{List, [], _∷_, _++_}
 use mathlib.Core.Bool.{Bool, cond}
 use Rattle.octets.specs.Read.{firstEight}
-use Rattle.session.specs.declared.Answer.{Answer}
-use Rattle.session.specs.declared.Outcome.{Outcome}
-use Rattle.stages.specs.declared.Port.{Port}
-use Rattle.stages.specs.declared.Session.{Session}
-use Rattle.stages.specs.declared.Stage.{Stage}
-use Rattle.session.specs.Answers.{numberOf, refusalNumber}
+use Rattle.answers.specs.declared.Answer.{Answer}
+use Rattle.answers.specs.declared.Outcome.{Outcome}
+use Rattle.answers.specs.Answers.{numberOf}
 
 -- a flag is 0 or 1
 abbrev pub bit : Bool → ℕ
 bit flag = cond flag 1 0
-
-abbrev pub stageNumber : Stage → ℕ
-stageNumber Stage.Waiting = 0
-stageNumber Stage.Password = 1
-stageNumber (Stage.Header port) = 2
-stageNumber (Stage.Data port load) = 3
-stageNumber (Stage.Stopped refusal) = 4
-stageNumber (Stage.Jumped jump) = 5
-
-abbrev pub portNumber : Port → ℕ
-portNumber Port.Can = 0
-portNumber Port.Serial = 1
-
--- the port of a stage: "the password stage is serial's alone"
-abbrev pub portIn : Stage → ℕ
-portIn Stage.Waiting = 0
-portIn Stage.Password = portNumber Port.Serial
-portIn (Stage.Header port) = portNumber port
-portIn (Stage.Data port load) = portNumber port
-portIn (Stage.Stopped refusal) = 0
-portIn (Stage.Jumped jump) = 0
-
--- start, VLE, next address and bytes owed of a load, and the number that stopped a session
-abbrev pub loadNumbers : Stage → List ℕ
-loadNumbers Stage.Waiting = 0 ∷ 0 ∷ 0 ∷ 0 ∷ 0 ∷ []
-loadNumbers Stage.Password = 0 ∷ 0 ∷ 0 ∷ 0 ∷ 0 ∷ []
-loadNumbers (Stage.Header port) = 0 ∷ 0 ∷ 0 ∷ 0 ∷ 0 ∷ []
-loadNumbers (Stage.Data port load) = load .start .0 ∷ bit (load .vle) ∷ load .next ∷ load .owed ∷ 0 ∷ []
-loadNumbers (Stage.Stopped refusal) = 0 ∷ 0 ∷ 0 ∷ 0 ∷ refusalNumber refusal ∷ []
-loadNumbers (Stage.Jumped jump) = jump .start .0 ∷ bit (jump .vle) ∷ 0 ∷ 0 ∷ 0 ∷ []
-
--- the 24 numbers of a session
-abbrev pub sessionNumbers : Session → List ℕ
-sessionNumbers session =
-    firstEight (session .selected)
-    ++ (stageNumber (session .stage) ∷ portIn (session .stage) ∷ session .count ∷ [])
-    ++ firstEight (session .held)
-    ++ loadNumbers (session .stage)
 
 -- the jump address and VLE of number 5
 abbrev pub jumpNumbers : Outcome → List ℕ

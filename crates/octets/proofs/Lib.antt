@@ -1,4 +1,2 @@
 pub mod Past
-pub mod Filling
 pub mod Comparing
-pub mod Lending

@@ -1,10 +1,8 @@
-// Reads of a byte and of big-endian numbers that answer for every place of every slice; writes and moves of several bytes; and
-// differences and least numbers, which answer for all numbers.
+// Reads of a byte and of big-endian numbers that answer for every place of every slice; and differences and least numbers, which answer
+// for all numbers.
 ghost use mathlib.Core.Path.{_≡_};
-ghost use Prim.Native.Nat.{_+_, _-_, _*_, _≤_, min};
+ghost use Prim.Native.Nat.{_+_, _-_, _*_, min};
 ghost use Rattle.octets.specs.Read.{byteAt, halfAt, wordAt, firstEight};
-ghost use Rattle.octets.specs.Write.{over, filled};
-ghost use lib.ListN.{length, drop};
 
 // The difference of two numbers, or 0 where the second is larger.
 pub fn difference(a: usize, b: usize) -> usize
@@ -81,53 +79,4 @@ pub fn first_eight(s: &[u8]) -> [u8; 8]
         byte(s, 6),
         byte(s, 7),
     ]
-}
-
-// Writes bytes over the first places of a slice that has room for them.
-fn copy(out: &mut [u8], bytes: &[u8])
-    requires { ⌜ length (now bytes) ≤ length (now out) ⌝ }
-    ensures { λ _. ⌜ now (out .exit) ≡ over (now (bytes .entry)) (now (out .entry)) ⌝ }
-{
-    for i in 0..bytes.len() {
-        out[i] = bytes[i];
-    }
-}
-
-// Writes bytes over the first places of a slice, or nothing where there is no room for them.
-pub fn fill(out: &mut [u8], bytes: &[u8])
-    ensures { λ _. ⌜ now (out .exit) ≡ filled (now (bytes .entry)) (now (out .entry)) ⌝ }
-{
-    if bytes.len() <= out.len() {
-        copy(out, bytes);
-    }
-}
-
-// Moves the bytes from a place on to the start, and returns how many they are. The places behind them keep theirs.
-pub fn slide(s: &mut [u8], from: usize) -> usize
-    ensures { λ r. ⌜ r ≡ length (now (s .entry)) - from ⌝ }
-    ensures { λ _. ⌜ now (s .exit) ≡ over (drop from (now (s .entry))) (now (s .entry)) ⌝ }
-{
-    let moved = difference(s.len(), from);
-    for i in 0..moved {
-        s[i] = s[from + i];
-    }
-    moved
-}
-
-// `copy` for 32-bit numbers.
-fn copy_words(out: &mut [u32], words: &[u32])
-    requires { ⌜ length (now words) ≤ length (now out) ⌝ }
-    ensures { λ _. ⌜ now (out .exit) ≡ over (now (words .entry)) (now (out .entry)) ⌝ }
-{
-    for i in 0..words.len() {
-        out[i] = words[i];
-    }
-}
-
-pub fn fill_words(out: &mut [u32], words: &[u32])
-    ensures { λ _. ⌜ now (out .exit) ≡ filled (now (words .entry)) (now (out .entry)) ⌝ }
-{
-    if words.len() <= out.len() {
-        copy_words(out, words);
-    }
 }

@@ -112,7 +112,7 @@ fn play_on(window: &mut [u8], sram: &mut [u8], out: &mut [u8], run: Run) -> Run 
     let played = report::play(&window[0..have], input.last, run.number, session, sram, out);
     let used = octets::least(played.used, out.len());
     let failed = write_out(&out[0..used]);
-    let left = octets::slide(&mut window[0..have], played.place);
+    let left = filling::slide(&mut window[0..have], played.place);
     let next = played.session;
     Run {
         filled: left,

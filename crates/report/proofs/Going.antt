@@ -8,7 +8,7 @@ use borrow.Author.Tests.{eqb-true, eqb-false, leb-true, not-true}
 use lib.Dec.{eqb, leb, ltb}
 use lib.ListN.{length, drop, length-drop}
 use lib.Seq.{take-append-le, take-append-seam, drop-append-le, drop-drop}
-use Rattle.session.specs.Answers.{After}
+use Rattle.answers.specs.Answers.{After}
 use Rattle.text.specs.Lines.{recordLine}
 use Rattle.capture.specs.Records.{Read, found}
 use Rattle.capture.proofs.Laws.{found-next}

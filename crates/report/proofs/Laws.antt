@@ -9,9 +9,9 @@ use borrow.Author.Tests.{eq-eqb, ne-eqb, leb-true, leb-false}
 use lib.Dec.{leb, eqb}
 use lib.ListN.{length, drop, drop-of-length-le}
 use Rattle.stages.specs.declared.Session.{Session}
-use Rattle.session.specs.declared.Outcome.{Outcome}
-use Rattle.session.specs.Answers.{After, unchanged}
-use Rattle.session.specs.Rules.{after}
+use Rattle.answers.specs.declared.Outcome.{Outcome}
+use Rattle.answers.specs.Answers.{After, unchanged}
+use Rattle.rules.specs.Rules.{after}
 use Rattle.text.specs.Lines.{recordLine}
 use Rattle.capture.specs.Records.{Read, found, reads, asRead}
 use Rattle.capture.proofs.Laws.{lent, lent-whole, reads-first}

@@ -7,7 +7,7 @@ use mathlib.Core.Bool.{Bool, true, false, cond, not, _&&_, _||_, and-eq-true-iff
 use borrow.Author.Tests.{leb-true, ltb-true, not-true}
 use lib.Dec.{leb, ltb}
 use lib.ListN.{length, drop, length-append, length-drop}
-use Rattle.octets.specs.Write.{over}
+use Rattle.filling.specs.Write.{over}
 use Rattle.text.specs.Places.{Output, asOutput, appended}
 use Rattle.text.proofs.Laws.{appended-behind}
 use Rattle.capture.specs.Records.{found}

@@ -5,15 +5,15 @@ use mathlib.Core.Bool.{Bool, true, false, cond}
 use lib.ListN.{length, take, drop, replicate}
 use lib.Dec.{eqb}
 use Rattle.octets.specs.Read.{halfAt}
-use Rattle.boot.specs.Table.{publicPassword}
+use Rattle.controls.specs.Table.{publicPassword}
 use Rattle.sram.specs.Region.{size}
 use Rattle.stages.specs.declared.Session.{Session}
-use Rattle.stages.specs.Fresh.{freshSession}
-use Rattle.stages.specs.Items.{Item, itemOf}
-use Rattle.session.specs.declared.Echo.{Echo}
-use Rattle.session.specs.declared.Outcome.{Outcome}
-use Rattle.session.specs.Answers.{After, unchanged}
-use Rattle.session.specs.Rules.{after}
+use Rattle.starts.specs.Fresh.{freshSession}
+use Rattle.items.specs.Items.{Item, itemOf}
+use Rattle.answers.specs.declared.Echo.{Echo}
+use Rattle.answers.specs.declared.Outcome.{Outcome}
+use Rattle.answers.specs.Answers.{After, unchanged}
+use Rattle.rules.specs.Rules.{after}
 use Rattle.capture.specs.Records.{Read, found}
 use Rattle.text.specs.Lines.{recordLine, lastLine}
 

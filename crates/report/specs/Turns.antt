@@ -4,8 +4,8 @@ use mathlib.Core.List.{List, [], _++_}
 use mathlib.Core.Bool.{cond, not, _&&_}
 use lib.Dec.{eqb}
 use Rattle.stages.specs.declared.Session.{Session}
-use Rattle.session.specs.declared.Outcome.{Outcome}
-use Rattle.session.specs.Answers.{After, asAfter, unchanged}
+use Rattle.answers.specs.declared.Outcome.{Outcome}
+use Rattle.answers.specs.Answers.{After, asAfter, unchanged}
 use Rattle.capture.specs.Records.{Read}
 use Rattle.text.specs.Lines.{recordLine}
 use Rattle.report.specs.declared.Heard.{Heard}

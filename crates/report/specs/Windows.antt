@@ -5,7 +5,7 @@ use mathlib.Core.List.{List, [], _++_}
 use mathlib.Core.Bool.{Bool, true, false, cond, not, _&&_, _||_}
 use lib.ListN.{length, take, drop}
 use lib.Dec.{leb, ltb}
-use Rattle.octets.specs.Write.{over}
+use Rattle.filling.specs.Write.{over}
 use Rattle.stages.specs.declared.Session.{Session}
 use Rattle.report.specs.declared.Played.{Played}
 use Rattle.text.specs.Places.{Output, appended}

@@ -3,17 +3,17 @@ ghost use mathlib.Core.Path.{_≡_};
 ghost use Prim.Native.Nat.{_+_, _-_, _≤_, _<_};
 ghost use mathlib.Core.List.{[]};
 ghost use lib.ListN.{length, drop};
-ghost use Rattle.boot.specs.Table.{publicPassword};
-ghost use Rattle.stages.specs.Fresh.{freshSession};
-ghost use Rattle.session.specs.Answers.{asAfter};
+ghost use Rattle.controls.specs.Table.{publicPassword};
+ghost use Rattle.starts.specs.Fresh.{freshSession};
+ghost use Rattle.answers.specs.Answers.{asAfter};
 ghost use Rattle.capture.specs.Records.{found};
 ghost use Rattle.text.specs.Lines.{lastLine};
 ghost use Rattle.text.specs.Places.{asOutput};
 ghost use Rattle.report.specs.Steps.{beginning, leading, says, echoed, recorded, ends};
 ghost use Rattle.report.specs.Windows.{turnOf, readyIn, playedIn, asLeaves, leftBy, stepLeaves, keeping, Goes};
 ghost use Rattle.report.specs.Turns.{asHears, hearsOf, toldOf, playedBehind};
-use session::Outcome;
-use session::Reply;
+use answers::Outcome;
+use answers::Reply;
 use stages::Session;
 
 // What a call leaves: the next place in the window, how much of the output is used, whether the text has ended, the number of the
@@ -30,7 +30,7 @@ pub struct Played {
 pub fn opening() -> Session
     ensures { λ r. ⌜ r ≡ freshSession publicPassword ⌝ }
 {
-    stages::waiting(boot::PUBLIC)
+    starts::waiting(controls::PUBLIC)
 }
 
 // What a capture begins with: record number 1 and that session.
@@ -68,11 +68,11 @@ fn answer_record(session: Session, sram: &mut [u8], kind: u8, body: &[u8]) -> Re
     ensures { λ r. ⌜ asAfter r (now (sram .exit)) ≡ says session (now (sram .entry)) kind (now (body .entry)) ⌝ }
 {
     if kind == 4 {
-        return session::leave(opening(), Outcome::Taken);
+        return answers::leave(opening(), Outcome::Taken);
     }
     let identifier = octets::half(body, 0);
     let from = octets::least(leading_bytes(kind), body.len());
-    session::hand_in(session, sram, kind, identifier as u32, &body[from..])
+    rules::hand_in(session, sram, kind, identifier as u32, &body[from..])
 }
 
 // The last line.
@@ -100,7 +100,7 @@ fn print_record(out: &mut [u8], used: usize, number: u64, taken: usize, reply: R
     let outcome = answer.outcome;
     let echo = answer.echo;
     let bytes = echo.bytes;
-    let said = numbers::outcome_number(outcome);
+    let said = answers::outcome_number(outcome);
     Played {
         place: taken,
         used: text::record_line(out, used, number, said, bytes, echo.length as usize),
@@ -133,7 +133,7 @@ fn hear(window: &[u8], place: usize, session: Session, sram: &mut [u8]) -> Heard
             number: number,
             kind: kind,
             taken: taken,
-            reply: session::leave(session, Outcome::Ignored),
+            reply: answers::leave(session, Outcome::Ignored),
         };
     }
     Heard {

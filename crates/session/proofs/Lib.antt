@@ -1,4 +1,1 @@
-pub mod Laws
-pub mod Holding
-pub mod Taking
 pub mod Handing

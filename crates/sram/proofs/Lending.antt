@@ -5,8 +5,8 @@ use mathlib.Core.Path.{_≡_, sym, _∙_}
 use mathlib.Core.List.{List}
 use borrow.Author.Tests.{eq-eqb}
 use lib.ListN.{length}
-use Rattle.octets.specs.Write.{filled}
-use Rattle.octets.proofs.Lending.{lent, back, put-back}
+use Rattle.filling.specs.Write.{filled}
+use Rattle.filling.proofs.Lending.{lent, back, put-back}
 use Rattle.sram.specs.Region.{size, base, stored, storedWithin}
 use Rattle.sram.proofs.Laws.{lies-if, stored-within}
 

@@ -47,7 +47,7 @@ pub fn store(sram: &mut [u8], address: u32, bytes: &[u8])
         if BASE <= address {
             let at = (address - BASE) as usize;
             if at + bytes.len() <= SIZE {
-                octets::fill(&mut sram[at..], bytes);
+                filling::fill(&mut sram[at..], bytes);
             }
         }
     }

@@ -1,4 +1,1 @@
-pub mod Items
 pub mod Sound
-pub mod Taking
-pub mod Fresh

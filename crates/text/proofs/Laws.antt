@@ -10,9 +10,9 @@ use borrow.Author.Tests.{le-leb, lt-leb, lt-ltb, leb-true, leb-false, ltb-true}
 use lib.Dec.{leb, ltb}
 use lib.ListN.{length, take, drop, getD, set, length-append, length-drop, take-append-drop, drop-of-length-le}
 use lib.Seq.{take-all, take-take, take-append-le, take-at, drop-at, drop-append-add, drop-drop, drop-cons, length-take-le, set-split, append-snoc}
-use Rattle.octets.specs.Write.{filled}
-use Rattle.octets.proofs.Lending.{lent, back, put-back}
-use Rattle.session.specs.Answers.{refusalNumber}
+use Rattle.filling.specs.Write.{filled}
+use Rattle.filling.proofs.Lending.{lent, back, put-back}
+use Rattle.answers.specs.Answers.{refusalNumber}
 use Rattle.stages.specs.declared.Stage.{Stage}
 use Rattle.text.specs.Digits.{ascii, lastDigit, decimalIn, decimal, hexOf}
 use Rattle.text.specs.Lines.{echoText, recordLine, addressBytes, lastLine}

@@ -1,7 +1,7 @@
 -- The lines that the program prints (01, "The truck's capture file").
 use Prim.Native.Nat.{ℕ, _/_, _%_}
 use mathlib.Core.List.{List, [], _∷_, _++_}
-use Rattle.session.specs.Answers.{refusalNumber}
+use Rattle.answers.specs.Answers.{refusalNumber}
 use Rattle.stages.specs.declared.Stage.{Stage}
 use Rattle.text.specs.Digits.{ascii, decimal, hexOf}
 

@@ -7,7 +7,7 @@ ghost use lib.ListN.{length, take};
 ghost use Rattle.text.specs.Digits.{ascii, decimal, hexDigit, hexOf};
 ghost use Rattle.text.specs.Lines.{echoText, recordLine, addressBytes, lastLine};
 ghost use Rattle.text.specs.Places.{Wrote, asOutput, appended};
-use session::Outcome;
+use answers::Outcome;
 use stages::Jump;
 use stages::Refusal;
 use stages::Stage;
@@ -28,7 +28,7 @@ fn put_bytes(line: &mut [u8], place: usize, bytes: &[u8]) -> usize
     ensures { λ r. ⌜ Wrote (now (line .entry)) (now (line .exit)) (now (bytes .entry)) r place ⌝ }
 {
     let start = place - bytes.len();
-    octets::fill(&mut line[start..], bytes);
+    filling::fill(&mut line[start..], bytes);
     start
 }
 
@@ -92,7 +92,7 @@ fn append(out: &mut [u8], used: usize, text: &[u8]) -> usize
     if out.len() - used < text.len() {
         return used;
     }
-    octets::fill(&mut out[used..], text);
+    filling::fill(&mut out[used..], text);
     used + text.len()
 }
 
@@ -151,7 +151,7 @@ fn put_stopped(line: &mut [u8], refusal: Refusal) -> usize
     ensures { λ r. ⌜ Wrote (now (line .entry)) (now (line .exit)) (lastLine (Stage.Stopped refusal)) r 64 ⌝ }
 {
     let feed = put_byte(line, 64, b'\n');
-    let number = numbers::outcome_number(Outcome::Stops(refusal));
+    let number = answers::outcome_number(Outcome::Stops(refusal));
     let said = put_decimal(line, feed, number as u64);
     put_bytes(line, said, b"end stopped ")
 }

@@ -8,15 +8,15 @@ use Rattle.boot.specs.declared.Answer.{Answer}
 use Rattle.boot.specs.declared.Entered.{Entered}
 use Rattle.boot.specs.declared.Mode.{Mode}
 use Rattle.boot.specs.Choosing.{bootChoice}
-use Rattle.boot.specs.Places.{good}
-use Rattle.boot.specs.Table.{publicPassword}
+use Rattle.places.specs.Places.{good}
+use Rattle.controls.specs.Table.{publicPassword}
 use Rattle.stages.specs.declared.Port.{Port}
 use Rattle.stages.specs.declared.Session.{Session}
 use Rattle.stages.specs.declared.Stage.{Stage}
-use Rattle.session.specs.Answers.{After}
-use Rattle.stages.specs.Fresh.{freshSession}
-use Rattle.stages.specs.Items.{Item}
-use Rattle.session.specs.Rules.{after}
+use Rattle.answers.specs.Answers.{After}
+use Rattle.starts.specs.Fresh.{freshSession}
+use Rattle.items.specs.Items.{Item}
+use Rattle.rules.specs.Rules.{after}
 
 -- a case: what the rules give, and what 01 says that it is
 pub record Case : Type 1 where

@@ -5,8 +5,8 @@ use mathlib.Core.List.{List}
 use mathlib.Core.Bool.{Bool}
 use Rattle.sram.specs.Region.{rightSize}
 use Rattle.stages.specs.declared.Session.{Session}
-use Rattle.stages.specs.Items.{Item, wellFormed}
-use Rattle.stages.specs.Taking.{takes}
+use Rattle.items.specs.Items.{Item, wellFormed}
+use Rattle.items.specs.Taking.{takes}
 use Rattle.stages.specs.Sound.{sound}
 use Rattle.answering.proofs.Answering.{exactly, kept, unmoved, echoed, leaves}
 use Rattle.answering.proofs.rows_hold.Statement.{statement}

@@ -2,9 +2,10 @@
 use mathlib.Core.Path.{sym, _∙_}
 use denote.Ref.{now}
 use borrow.Author.Needs.{needs}
-use Rattle.octets.proofs.Lending.{fill-whole}
+use Rattle.filling.proofs.Lending.{fill-whole}
 use Rattle.numbers.specs.Writing.{answerNumbers}
-use Rattle.merging.proofs.Handing.{answer-length}
+use Rattle.numbers.proofs.Whole.{answer-length}
+use Rattle.encoding.proofs.Lengths.{put-whole}
 use Rattle.calls.proofs.put_reply.Statement.{statement}
 use Rattle.calls.proofs.put_reply.Tie as tie
 
@@ -38,6 +39,7 @@ returns c =
     rw (
       c .outcome-number .ensures,
       put .put-session .ensures,
+      put-whole (start .args .reply .session) (now (start .args .session)) (start .pre .0),
       filled .fill-words .ensures,
       filled .before .before .before .answer-numbers .ensures,
       fill-whole (answerNumbers said) (now (start .args .answer)) (start .pre .1 ∙ sym (answer-length said)),

@@ -3,7 +3,7 @@ use mathlib.Core.Path.{_≡_, sym, ap, _∙_}
 use lib.ListN.{length}
 use denote.Ref.{now}
 use borrow.Author.Needs.{needs}
-use Rattle.octets.proofs.Lending.{fill-whole}
+use Rattle.filling.proofs.Lending.{fill-whole}
 use Rattle.choices.proofs.put_choice.Statement.{statement}
 use Rattle.choices.proofs.put_choice.Tie as tie
 

@@ -5,9 +5,10 @@ use Rattle.header.specs.Reading.{verdictOf}
 use Rattle.password.specs.Passing.{passes}
 use Rattle.sram.specs.Region.{size, base, lies, aligned, stored}
 use Rattle.stages.specs.Sound.{sound}
-use Rattle.stages.specs.Taking.{takes}
-use Rattle.session.specs.Answers.{firstDue}
-use Rattle.session.specs.Rules.{after, ruled, takenBy, echoes, moved, passwordMoved, checked, headerMoved, loaded, keeps}
+use Rattle.items.specs.Taking.{takes}
+use Rattle.answers.specs.Answers.{firstDue}
+use Rattle.rules.specs.Rules.{after, ruled, takenBy, moved, passwordMoved, checked, headerMoved, loaded, keeps}
+use Rattle.answers.specs.Answers.{echoes}
 use Rattle.merging.specs.Running.{ran, pickedPort, only, jumpsIn}
 use Rattle.merging.specs.Plain.{cleanBytes, dataBytes, headerBytes, frameBytes, complete}
 use Rattle.lists.specs.Lists.{listTable}

@@ -3,7 +3,7 @@ use mathlib.Core.Path.{_≡_, sym, _∙_}
 use lib.ListN.{length}
 use denote.Ref.{now}
 use borrow.Author.Needs.{needs}
-use Rattle.session.proofs.Laws.{nothing-due}
+use Rattle.answers.proofs.Laws.{nothing-due}
 use Rattle.merging.specs.Listing.{afterList}
 use Rattle.merging.proofs.Claiming.{claimed}
 use Rattle.merging.proofs.run.Statement.{statement}

@@ -5,8 +5,8 @@ use mathlib.Core.List.{List}
 use Prim.Native.Nat.{ℕ, min}
 use lib.ListN.{length}
 use denote.Ref.{now}
-use Rattle.stages.specs.Items.{itemOf}
-use Rattle.session.specs.Rules.{after}
+use Rattle.items.specs.Items.{itemOf}
+use Rattle.rules.specs.Rules.{after}
 use Rattle.report.proofs.answer_record.Statement.{statement}
 use Rattle.report.proofs.answer_record.Tie as tie
 use Rattle.report.specs.Steps.{leading}

@@ -4,8 +4,8 @@ use mathlib.Core.Path.{ap, _∙_}
 use mathlib.Core.List.{List}
 use Prim.Native.Nat.{ℕ}
 use denote.Ref.{now}
-use Rattle.session.specs.declared.Reply.{Reply}
-use Rattle.session.specs.Answers.{After, asAfter}
+use Rattle.answers.specs.declared.Reply.{Reply}
+use Rattle.answers.specs.Answers.{After, asAfter}
 use Rattle.capture.specs.Records.{found}
 use Rattle.capture.proofs.Laws.{lent, lent-whole}
 use Rattle.report.proofs.hear.Statement.{statement}

@@ -6,7 +6,7 @@ use mathlib.Core.Path.{ap, _∙_}
 use mathlib.Core.List.{[]}
 use lib.ListN.{length, length-append}
 use denote.Ref.{now}
-use Rattle.session.specs.Answers.{numberOf}
+use Rattle.answers.specs.Answers.{numberOf}
 use Rattle.text.specs.Lines.{recordLine}
 use Rattle.text.specs.Places.{asOutput}
 use Rattle.text.proofs.Laws.{record-length, last-length}

@@ -4,10 +4,10 @@ use mathlib.Core.Path.{ap, _∙_}
 use mathlib.Core.List.{[], _∷_}
 use Prim.Native.Nat.{ℕ}
 use denote.Ref.{now}
-use Rattle.stages.specs.Items.{itemOf}
+use Rattle.items.specs.Items.{itemOf}
 use Rattle.session.proofs.byte.Statement.{statement}
 use Rattle.session.proofs.byte.Tie as tie
-use Rattle.session.specs.Rules.{after}
+use Rattle.rules.specs.Rules.{after}
 use Rattle.session.proofs.Handing.{byte-item}
 
 byte-kind-requires : tie.Need-byte-kind-requires

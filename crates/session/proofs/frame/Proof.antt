@@ -1,6 +1,6 @@
 -- `session::frame` meets its contract: a frame is an item of kind 1.
 use borrow.Author.Needs.{needs}
-use Rattle.stages.specs.Items.{itemOf}
+use Rattle.items.specs.Items.{itemOf}
 use Rattle.session.proofs.frame.Statement.{statement}
 use Rattle.session.proofs.frame.Tie as tie
 

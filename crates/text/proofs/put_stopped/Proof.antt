@@ -2,7 +2,7 @@
 use borrow.Author.Needs.{needs}
 use native.Mathlib.Omega.{arith}
 use mathlib.Core.List.{append-assoc}
-use Rattle.session.specs.Answers.{refusalNumber}
+use Rattle.answers.specs.Answers.{refusalNumber}
 use Rattle.text.proofs.put_stopped.Statement.{statement}
 use Rattle.text.proofs.put_stopped.Tie as tie
 use Rattle.text.specs.Digits.{ascii, decimal}

@@ -2,15 +2,15 @@
 use mathlib.Core.Path.{refl}
 use Rattle.octets.specs.Same.{same}
 use Rattle.boot.specs.Choosing.{bootChoice, chosen, settled}
-use Rattle.boot.specs.Places.{good, walk, flashPlaces}
-use Rattle.boot.specs.Table.{askedBy, rowFor, rowOf, control55AA}
+use Rattle.places.specs.Places.{good, walk, flashPlaces}
+use Rattle.controls.specs.Table.{askedBy, rowFor, rowOf, control55AA}
 use Rattle.header.specs.Reading.{verdictOf}
 use Rattle.password.specs.Passing.{passes}
 use Rattle.sram.specs.Region.{size, base, lies}
 use Rattle.stages.specs.Sound.{sound}
-use Rattle.stages.specs.Taking.{takes}
-use Rattle.session.specs.Answers.{firstDue}
-use Rattle.session.specs.Rules.{after, ruled, takenBy, moved, passwordMoved, checked, headerMoved}
+use Rattle.items.specs.Taking.{takes}
+use Rattle.answers.specs.Answers.{firstDue}
+use Rattle.rules.specs.Rules.{after, ruled, takenBy, moved, passwordMoved, checked, headerMoved}
 use Rattle.trials.specs.Trials.{table}
 use Rattle.trials.proofs.cases_agree.Statement.{statement}
 use Rattle.trials.proofs.cases_agree.Tie as tie

@@ -1,0 +1,30 @@
+-- `decoding::decode` meets its contract: each field is what its function ensures.
+use borrow.Author.Needs.{needs}
+use Rattle.decoding.proofs.decode.Statement.{statement}
+use Rattle.decoding.proofs.decode.Tie as tie
+
+eight-in-requires : tie.Need-eight-in-requires
+eight-in-requires c κs = search needs
+
+eight-in-requires-2 : tie.Need-eight-in-requires-2
+eight-in-requires-2 c κs = search needs
+
+read-stage-requires : tie.Need-read-stage-requires
+read-stage-requires c κs = search needs
+
+byte-in-requires : tie.Need-byte-in-requires
+byte-in-requires c κs = search needs
+
+returns : tie.Need-returns
+returns c =
+    rw (
+      c .before .before .before .eight-in .ensures,
+      c .before .before .eight-in2 .ensures,
+      c .before .read-stage .ensures,
+      c .byte-in .ensures,
+    )
+
+pub decode-spec : {M : Type 1} → statement M
+decode-spec =
+    tie.close
+    (tie.spec eight-in-requires eight-in-requires-2 read-stage-requires byte-in-requires returns)

@@ -1,0 +1,156 @@
+// Sessions read from lists of numbers, as they cross the C interface (include/boot_assist.h).
+ghost use mathlib.Core.Path.{_≡_};
+ghost use Prim.Native.Nat.{_≤_};
+ghost use Rattle.octets.specs.Same.{same};
+ghost use Rattle.encoding.specs.Reading.{numberAt, byteIn, eightIn, portRead, loadRead, refusalRead, jumpRead, stageRead, sessionRead, unsoundSession, sessionIn};
+use sram::Aligned;
+use stages::Jump;
+use stages::Load;
+use stages::Port;
+use stages::Refusal;
+use stages::Session;
+use stages::Stage;
+
+// The number at a place, or 0 past the end.
+fn number_at(numbers: &[u32], at: usize) -> u32
+    ensures { λ r. ⌜ r ≡ numberAt (now (numbers .entry)) at ⌝ }
+{
+    if numbers.len() <= at {
+        return 0;
+    }
+    numbers[at]
+}
+
+// The number at a place as a byte.
+fn byte_in(numbers: &[u32], at: usize) -> u8
+    ensures { λ r. ⌜ r ≡ byteIn (now (numbers .entry)) at ⌝ }
+{
+    (number_at(numbers, at) % 256) as u8
+}
+
+// Eight bytes from a place on.
+fn eight_in(numbers: &[u32], at: usize) -> [u8; 8]
+    requires { ⌜ at ≤ 11 ⌝ }
+    ensures { λ r. ⌜ r ≡ eightIn (now (numbers .entry)) at ⌝ }
+{
+    [
+        byte_in(numbers, at),
+        byte_in(numbers, at + 1),
+        byte_in(numbers, at + 2),
+        byte_in(numbers, at + 3),
+        byte_in(numbers, at + 4),
+        byte_in(numbers, at + 5),
+        byte_in(numbers, at + 6),
+        byte_in(numbers, at + 7),
+    ]
+}
+
+// The port, the load, the refusal and the jump that a stage may have.
+fn read_port(numbers: &[u32]) -> Port
+    ensures { λ r. ⌜ r ≡ portRead (now (numbers .entry)) ⌝ }
+{
+    if number_at(numbers, 9) == 0 {
+        return Port::Can;
+    }
+    Port::Serial
+}
+
+fn read_load(numbers: &[u32]) -> Load
+    ensures { λ r. ⌜ r ≡ loadRead (now (numbers .entry)) ⌝ }
+{
+    Load {
+        start: Aligned(number_at(numbers, 19)),
+        vle: number_at(numbers, 20) == 1,
+        next: number_at(numbers, 21),
+        owed: number_at(numbers, 22),
+    }
+}
+
+fn read_refusal(numbers: &[u32]) -> Refusal
+    ensures { λ r. ⌜ r ≡ refusalRead (now (numbers .entry)) ⌝ }
+{
+    let number = number_at(numbers, 23);
+    match number {
+        2 => Refusal::Password,
+        3 => Refusal::Length,
+        _ => Refusal::Range,
+    }
+}
+
+fn read_jump(numbers: &[u32]) -> Jump
+    ensures { λ r. ⌜ r ≡ jumpRead (now (numbers .entry)) ⌝ }
+{
+    Jump {
+        start: Aligned(number_at(numbers, 19)),
+        vle: number_at(numbers, 20) == 1,
+    }
+}
+
+// The stage.
+fn read_stage(numbers: &[u32]) -> Stage
+    ensures { λ r. ⌜ r ≡ stageRead (now (numbers .entry)) ⌝ }
+{
+    let number = number_at(numbers, 8);
+    match number {
+        0 => Stage::Waiting,
+        1 => Stage::Password,
+        2 => Stage::Header(read_port(numbers)),
+        3 => Stage::Data(read_port(numbers), read_load(numbers)),
+        4 => Stage::Stopped(read_refusal(numbers)),
+        _ => Stage::Jumped(read_jump(numbers)),
+    }
+}
+
+// The session that numbers read as.
+fn decode(numbers: &[u32]) -> Session
+    ensures { λ r. ⌜ r ≡ sessionRead (now (numbers .entry)) ⌝ }
+{
+    let selected = eight_in(numbers, 0);
+    let held = eight_in(numbers, 11);
+    Session {
+        selected: selected,
+        stage: read_stage(numbers),
+        held: held,
+        count: byte_in(numbers, 10),
+    }
+}
+
+// Whether 24 numbers are the same.
+fn is_same(a: [u32; 24], b: &[u32]) -> bool
+    ensures { λ r. ⌜ r ≡ same a (now (b .entry)) ⌝ }
+{
+    if b.len() != 24 {
+        return false;
+    }
+    let mut i: usize = 0;
+    while i < 24 {
+        if a[i] != b[i] {
+            return false;
+        }
+        i = i + 1;
+    }
+    true
+}
+
+// A session that is not sound: waiting, with a byte held.
+fn unsound() -> Session
+    ensures { λ r. ⌜ r ≡ unsoundSession ⌝ }
+{
+    Session {
+        selected: [0; 8],
+        stage: Stage::Waiting,
+        held: [0; 8],
+        count: 1,
+    }
+}
+
+// The session of numbers, or one that is not sound where no session has them.
+pub fn read_session(numbers: &[u32]) -> Session
+    ensures { λ r. ⌜ r ≡ sessionIn (now (numbers .entry)) ⌝ }
+{
+    let read = decode(numbers);
+    if is_same(encoding::session_numbers(read), numbers) {
+        return read;
+    }
+    unsound()
+}

@@ -1,0 +1,4 @@
+pub mod Laws
+pub mod Holding
+pub mod Taking
+pub mod Handing

@@ -1,0 +1,45 @@
+-- `starts::fresh_in` meets its contract: each arm is the definition's case.
+use borrow.Author.Needs.{needs}
+use Rattle.starts.proofs.fresh_in.Statement.{statement}
+use Rattle.starts.proofs.fresh_in.Tie as tie
+
+enum-told : tie.Need-enum-told
+enum-told c = search needs
+
+no-session-requires : tie.Need-no-session-requires
+no-session-requires c κs = search needs
+
+enum-told-2 : tie.Need-enum-told-2
+enum-told-2 c = search needs
+
+no-session-requires-2 : tie.Need-no-session-requires-2
+no-session-requires-2 c κs = search needs
+
+enum-told-3 : tie.Need-enum-told-3
+enum-told-3 c = search needs
+
+waiting-requires : tie.Need-waiting-requires
+waiting-requires c κs = search needs
+
+returns : tie.Need-returns
+returns c = search needs
+
+returns-2 : tie.Need-returns-2
+returns-2 c = search needs
+
+returns-3 : tie.Need-returns-3
+returns-3 c = rw (c .waiting .ensures, c .before .enum-told3 .given .1)
+
+pub fresh-in-spec : {M : Type 1} → statement M
+fresh-in-spec =
+    tie.close
+    (tie.spec
+    enum-told
+    no-session-requires
+    enum-told-2
+    no-session-requires-2
+    enum-told-3
+    waiting-requires
+    returns
+    returns-2
+    returns-3)

@@ -1,0 +1,57 @@
+-- `starts::header_in` meets its contract: each arm is the definition's case.
+use borrow.Author.Needs.{needs}
+use Rattle.starts.proofs.header_in.Statement.{statement}
+use Rattle.starts.proofs.header_in.Tie as tie
+
+enum-told : tie.Need-enum-told
+enum-told c = search needs
+
+enum-told-2 : tie.Need-enum-told-2
+enum-told-2 c = search needs
+
+enum-told-3 : tie.Need-enum-told-3
+enum-told-3 c = search needs
+
+enum-known-stage : tie.Need-enum-known-stage
+enum-known-stage c = search needs
+
+enum-told-4 : tie.Need-enum-told-4
+enum-told-4 c = search needs
+
+enum-known-stage-2 : tie.Need-enum-known-stage-2
+enum-known-stage-2 c = search needs
+
+returns : tie.Need-returns
+returns c = search needs
+
+returns-2 : tie.Need-returns-2
+returns-2 c = search needs
+
+returns-3 : tie.Need-returns-3
+returns-3 c = search needs
+
+returns-4 : tie.Need-returns-4
+returns-4 c = rw (c .before .stage .given .1)
+
+returns-5 : tie.Need-returns-5
+returns-5 c = search needs
+
+returns-6 : tie.Need-returns-6
+returns-6 c = rw (c .before .stage2 .given .1)
+
+pub header-in-spec : {M : Type 1} → statement M
+header-in-spec =
+    tie.close
+    (tie.spec
+    enum-told
+    enum-told-2
+    enum-told-3
+    enum-known-stage
+    enum-told-4
+    enum-known-stage-2
+    returns
+    returns-2
+    returns-3
+    returns-4
+    returns-5
+    returns-6)
