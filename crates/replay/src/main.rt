@@ -110,14 +110,15 @@ fn play_on(window: &mut [u8], sram: &mut [u8], out: &mut [u8], run: Run) -> Run 
     let have = filled + input.count;
     let session = run.session;
     let played = report::play(&window[0..have], input.last, run.number, session, sram, out);
-    let used = octets::least(played.used, out.len());
-    let failed = write_out(&out[0..used]);
-    let left = filling::slide(&mut window[0..have], played.place);
+    let turn = played.turn;
     let next = played.session;
+    let used = octets::least(turn.used, out.len());
+    let failed = write_out(&out[0..used]);
+    let left = filling::slide(&mut window[0..have], turn.place);
     Run {
         filled: left,
-        ended: played.ended | failed,
-        number: played.number,
+        ended: turn.ended | failed,
+        number: turn.number,
         session: next,
     }
 }
@@ -125,11 +126,12 @@ fn play_on(window: &mut [u8], sram: &mut [u8], out: &mut [u8], run: Run) -> Run 
 // Plays window after window until the text has ended.
 fn play_all(window: &mut [u8], sram: &mut [u8], out: &mut [u8]) {
     let first = report::begin();
+    let turn = first.turn;
     let session = first.session;
     let mut run = Run {
         filled: 0,
-        ended: first.ended,
-        number: first.number,
+        ended: turn.ended,
+        number: turn.number,
         session: session,
     };
     let mut turns = u64::MAX;

@@ -13,7 +13,8 @@ use Rattle.text.specs.Lines.{recordLine}
 use Rattle.capture.specs.Records.{Read, found}
 use Rattle.capture.proofs.Laws.{found-next}
 use Rattle.capture.proofs.Window.{window as fourteen}
-use Rattle.report.specs.Steps.{Kept, Step, says, recorded, closing, ends, stepOf, stepFrom, textIn, textFrom}
+use Rattle.hearing.specs.Hearing.{says}
+use Rattle.report.specs.Steps.{Kept, Step, recorded, closing, ends, stepOf, stepFrom, textIn, textFrom}
 use Rattle.report.specs.Windows.{Playing, atFirst, onward, ready, plays, playedIn, leftBy, Goes}
 
 -- a step takes no more than there is, and at least 4 bytes where the text goes on

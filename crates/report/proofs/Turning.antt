@@ -10,26 +10,28 @@ use lib.ListN.{length, drop, length-append, length-drop}
 use Rattle.filling.specs.Write.{over}
 use Rattle.text.specs.Places.{Output, asOutput, appended}
 use Rattle.text.proofs.Laws.{appended-behind}
+use Rattle.stages.specs.declared.Session.{Session}
 use Rattle.capture.specs.Records.{found}
-use Rattle.report.specs.declared.Heard.{Heard}
-use Rattle.report.specs.declared.Played.{Played}
+use Rattle.hearing.specs.declared.Heard.{Heard}
+use Rattle.hearing.specs.Hearing.{asHears, hearsOf}
+use Rattle.report.specs.declared.Turn.{Turn}
 use Rattle.report.specs.Steps.{Kept, Step, stepFrom}
-use Rattle.report.specs.Windows.{Playing, turnOf, onward, readyIn, ready, plays, playedIn, Leaves, asLeaves, leftBy, stepLeaves, keeping}
-use Rattle.report.specs.Turns.{asHears, hearsOf, toldOf, playedBehind}
-use Rattle.report.proofs.Laws.{leavesBy, movedOn, told-same, step-text, step-leaves}
+use Rattle.report.specs.Windows.{Playing, startOf, onward, readyIn, ready, plays, playedIn, Leaves, asLeaves, leftBy, keeping}
+use Rattle.report.specs.Turns.{toldOf, asPrinted, printedAt, printedOf, turnBehind}
+use Rattle.report.proofs.Laws.{leavesWith, stepLeaves, movedOn, step-text, step-leaves}
 use Rattle.report.proofs.Going.{step-within}
 
--- where the definition is, of a turn with its text and SRAM
-abbrev pub stateOf : List ℕ → Played → List ℕ → Playing
-stateOf text turn sram =
+-- where the definition is, of a turn with its text and what is kept besides
+abbrev pub stateOf : List ℕ → Turn → Session → List ℕ → Playing
+stateOf text turn session sram =
     record {
       place = turn .place;
       text = text;
       ended = turn .ended;
-      kept = keeping (turn .number) (turn .session) sram;
+      kept = keeping (turn .number) session sram;
     }
 
-pub record Turning (window : List ℕ) (last : Bool) (kept : Kept) (first : List ℕ) (turn : Played) (sram out : List ℕ) : Type 0 where
+pub record Turning (window : List ℕ) (last : Bool) (kept : Kept) (first : List ℕ) (turn : Turn) (session : Session) (sram out : List ℕ) : Type 0 where
   pub text : List ℕ
   pub more : ℕ
   pub used : turn .used ≡ length text
@@ -37,14 +39,14 @@ pub record Turning (window : List ℕ) (last : Bool) (kept : Kept) (first : List
   pub fits : length text ≤ length first
   pub inside : turn .place ≤ length window
   pub enough : turn .ended ≡ false → length window < turn .place + more
-  pub same : plays more window last (length first) (stateOf text turn sram) ≡ playedIn window last (length first) kept
+  pub same : plays more window last (length first) (stateOf text turn session sram) ≡ playedIn window last (length first) kept
 
 -- how much is left
-abbrev pub leftIn : List ℕ → Played → ℕ
+abbrev pub leftIn : List ℕ → Turn → ℕ
 leftIn window turn = cond (turn .ended) 0 (suc (length window - turn .place))
 
 pub turning-first : (window : List ℕ) (last : Bool) (kept : Kept) (out : List ℕ)
-    → Turning window last kept out (turnOf kept) (kept .sram) out
+    → Turning window last kept out (startOf kept .turn) (kept .session) (kept .sram) out
 unfolding playedIn
 turning-first window last kept out =
     record {
@@ -58,7 +60,7 @@ turning-first window last kept out =
       same = refl;
     }
 
-module _ (window : List ℕ) (last : Bool) (kept : Kept) (first : List ℕ) (turn : Played) (sram out : List ℕ) (here : Turning window last kept first turn sram out) where
+module _ (window : List ℕ) (last : Bool) (kept : Kept) (first : List ℕ) (turn : Turn) (session : Session) (sram out : List ℕ) (here : Turning window last kept first turn session sram out) where
   abbrev Tested : Bool → Type 0
   Tested t = t ≡ readyIn (length window - turn .place) last (length out - turn .used) (turn .ended) (turn .number)
 
@@ -70,7 +72,7 @@ module _ (window : List ℕ) (last : Bool) (kept : Kept) (first : List ℕ) (tur
       ∙ omega (arith, here .fits, length-drop (length (here .text)) first)
 
   -- the code's test is the definition's
-  ready-same : (t : Bool) → Tested t → t ≡ ready window last (length first) (stateOf (here .text) turn sram)
+  ready-same : (t : Bool) → Tested t → t ≡ ready window last (length first) (stateOf (here .text) turn session sram)
   unfolding ready
   ready-same t e = e ∙ rw (here .used, turning-long)
 
@@ -90,24 +92,24 @@ module _ (window : List ℕ) (last : Bool) (kept : Kept) (first : List ℕ) (tur
       )
 
   -- when the next record can't be read the definition is done
-  pub turning-last : (t : Bool) → Tested t → t ≡ false → asLeaves turn sram out ≡ leftBy (playedIn window last (length first) kept) first
+  pub turning-last : (t : Bool) → Tested t → t ≡ false → asLeaves record { turn = turn; session = session } sram out ≡ leftBy (playedIn window last (length first) kept) first
   turning-last t e stopped =
       rw (here .wrote, here .used) (ap (λ (p : Playing). leftBy p first) (sym (done (here .more)) ∙ here .same))
     where
-      done : (more : ℕ) → plays more window last (length first) (stateOf (here .text) turn sram) ≡ stateOf (here .text) turn sram
+      done : (more : ℕ) → plays more window last (length first) (stateOf (here .text) turn session sram) ≡ stateOf (here .text) turn session sram
       done zero = refl
       done (suc more) = rw (← ready-same t e, stopped)
 
   -- one record more
   abbrev before : Kept
-  before = keeping (turn .number) (turn .session) sram
+  before = keeping (turn .number) session sram
 
   abbrev left : List ℕ
   left = drop (turn .place) window
 
-  module _ (next : Played) (next-sram next-out : List ℕ)
+  module _ (next : Turn) (next-session : Session) (next-sram next-out : List ℕ)
       (short : length (stepFrom before left .text) ≤ 96)
-      (told : asLeaves next next-sram next-out ≡ movedOn (turn .place) (stepLeaves (stepFrom before left) (asOutput out (turn .used))))
+      (told : asLeaves record { turn = next; session = next-session } next-sram next-out ≡ movedOn (turn .place) (stepLeaves (stepFrom before left) (asOutput out (turn .used))))
       (t : Bool) (e : Tested t) (yes-ready : t ≡ true) where
     abbrev next-step : Step
     next-step = stepFrom before left
@@ -125,21 +127,28 @@ module _ (window : List ℕ) (last : Bool) (kept : Kept) (first : List ℕ) (tur
         rw (here .wrote, here .used)
         (appended-behind (here .text) first (next-step .text) (omega (arith, long, length-append (here .text) (next-step .text))))
 
-    all : asLeaves next next-sram next-out ≡ movedOn (turn .place) (leavesBy (next-step .taken) (next-step .over) (next-step .kept) (asOutput (over text first) (length text)))
-    all = told ∙ ap (λ (o : Output). movedOn (turn .place) (leavesBy (next-step .taken) (next-step .over) (next-step .kept) o)) put
+    -- the turn of the step, with the output that `put` says
+    turned : Output → Leaves
+    turned o = movedOn (turn .place) (leavesWith (printedAt (next-step .taken) (next-step .over) (next-step .kept .number) o) (next-step .kept))
+
+    all : asLeaves record { turn = next; session = next-session } next-sram next-out ≡ turned (asOutput (over text first) (length text))
+    unfolding turned
+    all = told ∙ ap turned put
 
     place-is : next .place ≡ turn .place + next-step .taken
-    place-is = ap (λ (l : Leaves). l .played .place) all
+    unfolding turned
+    place-is = ap (λ (l : Leaves). l .played .turn .place) all
 
     ended-is : next .ended ≡ next-step .over
-    ended-is = ap (λ (l : Leaves). l .played .ended) all
+    unfolding turned
+    ended-is = ap (λ (l : Leaves). l .played .turn .ended) all
 
     within : turn .place + next-step .taken ≤ length window
     within = omega (arith, step-within before left .0, length-drop (turn .place) window, here .inside)
 
     plays-on : (more : ℕ) → 0 < more
-        → plays (more - 1) window last (length first) (onward window (stateOf (here .text) turn sram))
-        ≡ plays more window last (length first) (stateOf (here .text) turn sram)
+        → plays (more - 1) window last (length first) (onward window (stateOf (here .text) turn session sram))
+        ≡ plays more window last (length first) (stateOf (here .text) turn session sram)
     plays-on zero h = absurd (omega arith)
     plays-on (suc more) h =
         let less : suc more - 1 ≡ more = omega arith in
@@ -148,18 +157,19 @@ module _ (window : List ℕ) (last : Bool) (kept : Kept) (first : List ℕ) (tur
     some : length window < turn .place + here .more
     some = here .enough (turning-room t e yes-ready .0)
 
-    pub turning-on : Turning window last kept first next next-sram next-out
+    pub turning-on : Turning window last kept first next next-session next-sram next-out
+    unfolding turned
     turning-on =
         record {
           text = text;
           more = here .more - 1;
-          used = ap (λ (l : Leaves). l .played .used) all;
+          used = ap (λ (l : Leaves). l .played .turn .used) all;
           wrote = ap (λ (l : Leaves). l .out) all;
           fits = long;
           inside = omega (arith, place-is, within);
           enough = λ goes. omega (arith, place-is, some, step-within before left .1 (sym ended-is ∙ goes));
           same =
-              ap (λ (l : Leaves). plays (here .more - 1) window last (length first) (stateOf text (l .played) (l .sram))) all
+              ap (λ (l : Leaves). plays (here .more - 1) window last (length first) (stateOf text (l .played .turn) (l .played .session) (l .sram))) all
               ∙ plays-on (here .more) (omega (arith, some, here .inside))
               ∙ here .same;
         }
@@ -172,27 +182,24 @@ module _ (window : List ℕ) (last : Bool) (kept : Kept) (first : List ℕ) (tur
         by-end false o = omega (arith, place-is, within, step-within before left .1 o)
 
   -- what was heard at the place and told of it
-  module _ (heard : Heard) (told : Played) (next-sram next-out : List ℕ)
-      (heard-is : asHears heard next-sram ≡ hearsOf (turn .session) sram (found 0 left))
-      (told-is : asLeaves told [] next-out ≡ stepLeaves (toldOf (turn .number) (asHears heard [])) (asOutput out (turn .used))) where
-    told-step : asLeaves told next-sram next-out ≡ stepLeaves (stepFrom before left) (asOutput out (turn .used))
+  module _ (heard : Heard) (told : Turn) (next-sram next-out : List ℕ)
+      (heard-is : asHears heard next-sram ≡ hearsOf session sram (found 0 left))
+      (told-is : asPrinted told next-out ≡ printedOf (toldOf (turn .number) (asHears heard [])) (asOutput out (turn .used))) where
+    told-step : asLeaves record { turn = told; session = heard .reply .session } next-sram next-out ≡ stepLeaves (stepFrom before left) (asOutput out (turn .used))
     told-step = step-leaves before (found 0 left) heard next-sram heard-is told next-out (asOutput out (turn .used)) told-is
 
     -- the turn that `report::turn_behind` makes of it
-    pub turn-told : (next : Played) → next ≡ playedBehind (turn .place) told
-        → asLeaves next next-sram next-out ≡ movedOn (turn .place) (stepLeaves (stepFrom before left) (asOutput out (turn .used)))
-    turn-told next e = ap (λ (p : Played). asLeaves p next-sram next-out) e ∙ ap (movedOn (turn .place)) told-step
+    pub turn-told : (next : Turn) → next ≡ turnBehind (turn .place) told
+        → asLeaves record { turn = next; session = heard .reply .session } next-sram next-out
+        ≡ movedOn (turn .place) (stepLeaves (stepFrom before left) (asOutput out (turn .used)))
+    turn-told next e =
+        ap (λ (n : Turn). asLeaves record { turn = n; session = heard .reply .session } next-sram next-out) e
+        ∙ ap (movedOn (turn .place)) told-step
 
     pub turn-short : length (toldOf (turn .number) (asHears heard []) .text) ≤ 96 → length (stepFrom before left .text) ≤ 96
     turn-short h = subst (λ (l : List ℕ). length l ≤ 96) (step-text before (found 0 left) heard next-sram heard-is) h
 
-    pub turn-session : (next : Played) → next ≡ playedBehind (turn .place) told → heard .reply .session ≡ next .session
-    turn-session next e =
-        sym (told-same (turn .number) heard next-sram .2)
-        ∙ sym (ap (λ (l : Leaves). l .played .session) told-is)
-        ∙ sym (ap (λ (p : Played). p .session) e)
-
     pub turn-within : turn .place + told .place ≤ length window
     turn-within =
-        let taken = ap (λ (l : Leaves). l .played .place) told-step in
+        let taken = ap (λ (l : Leaves). l .played .turn .place) told-step in
         omega (arith, taken, step-within before left .0, length-drop (turn .place) window, here .inside)

@@ -4,18 +4,15 @@ use mathlib.Core.List.{List, [], _++_}
 use mathlib.Core.Bool.{Bool, true, false, cond}
 use lib.ListN.{length, take, drop, replicate}
 use lib.Dec.{eqb}
-use Rattle.octets.specs.Read.{halfAt}
 use Rattle.controls.specs.Table.{publicPassword}
 use Rattle.sram.specs.Region.{size}
 use Rattle.stages.specs.declared.Session.{Session}
 use Rattle.starts.specs.Fresh.{freshSession}
-use Rattle.items.specs.Items.{Item, itemOf}
 use Rattle.answers.specs.declared.Echo.{Echo}
-use Rattle.answers.specs.declared.Outcome.{Outcome}
-use Rattle.answers.specs.Answers.{After, unchanged}
-use Rattle.rules.specs.Rules.{after}
+use Rattle.answers.specs.Answers.{After}
 use Rattle.capture.specs.Records.{Read, found}
 use Rattle.text.specs.Lines.{recordLine, lastLine}
+use Rattle.hearing.specs.Hearing.{says}
 
 -- what the program keeps from record to record: the number of the next record, the session and SRAM
 pub record Kept : Type 0 where
@@ -26,22 +23,6 @@ pub record Kept : Type 0 where
 -- "with zeroed SRAM and the public password"; "its number from 1"
 abbrev pub beginning : Kept
 beginning = record { number = 1; session = freshSession publicPassword; sram = replicate size 0 }
-
--- "Kind 1, CAN: two identifier bytes, 0 to 8 data bytes": how many bytes of a body stand before an item's own
-abbrev pub leading : ℕ → ℕ
-leading kind = cond (eqb kind 1) 2 0
-
-abbrev pub itemIn : ℕ → List ℕ → Item
-itemIn kind body = itemOf kind (halfAt body 0) (drop (leading kind) body)
-
--- "A reset is a new boot choice; SRAM keeps its bytes"; "Reset prints 0 and "-""
-abbrev pub resets : List ℕ → After
-resets sram = unchanged Outcome.Taken (freshSession publicPassword) sram
-
--- what a record does: its number and its answer, and the session and SRAM after it
-unfoldable pub says : Session → List ℕ → ℕ → List ℕ → After
-says session sram kind body =
-    cond (eqb kind 4) (resets sram) (after session sram (itemIn kind body))
 
 -- "the echoed data"
 abbrev pub echoed : Echo → List ℕ

@@ -8,8 +8,7 @@ use lib.Dec.{leb, ltb}
 use Rattle.filling.specs.Write.{over}
 use Rattle.stages.specs.declared.Session.{Session}
 use Rattle.report.specs.declared.Played.{Played}
-use Rattle.text.specs.Places.{Output, appended}
-use Rattle.report.specs.Steps.{Kept, Step, stepFrom, textFrom}
+use Rattle.report.specs.Steps.{Kept, stepFrom, textFrom}
 
 -- Where a call is: the next place in the window, the text so far, whether it has ended, and what is kept
 pub record Playing : Type 0 where
@@ -19,9 +18,12 @@ pub record Playing : Type 0 where
   pub kept : Kept
 
 -- as a call has it before the first record
-abbrev pub turnOf : Kept → Played
-turnOf kept =
-    record { place = 0; used = 0; ended = false; number = kept .number; session = kept .session }
+abbrev pub startOf : Kept → Played
+startOf kept =
+    record {
+      turn = record { place = 0; used = 0; ended = false; number = kept .number };
+      session = kept .session;
+    }
 
 abbrev pub atFirst : Kept → Playing
 atFirst kept = record { place = 0; text = []; ended = false; kept = kept }
@@ -68,29 +70,16 @@ abbrev pub leftBy : Playing → List ℕ → Leaves
 leftBy p out =
     record {
       played = record {
-        place = p .place;
-        used = length (p .text);
-        ended = p .ended;
-        number = p .kept .number;
+        turn = record {
+          place = p .place;
+          used = length (p .text);
+          ended = p .ended;
+          number = p .kept .number;
+        };
         session = p .kept .session;
       };
       sram = p .kept .sram;
       out = over (p .text) out;
-    }
-
--- one record, with its text behind what the output holds already
-abbrev pub stepLeaves : Step → Output → Leaves
-stepLeaves step out =
-    record {
-      played = record {
-        place = step .taken;
-        used = appended out (step .text) .used;
-        ended = step .over;
-        number = step .kept .number;
-        session = step .kept .session;
-      };
-      sram = step .kept .sram;
-      out = appended out (step .text) .bytes;
     }
 
 abbrev pub keeping : ℕ → Session → List ℕ → Kept
@@ -100,12 +89,11 @@ keeping number session sram = record { number = number; session = session; sram 
 -- text from the next place on, with what is kept by then.
 abbrev pub Goes : List ℕ → Bool → Kept → Leaves → Type 0
 Goes window last kept call =
+    let turn = call .played .turn in
     (rest : List ℕ)
     → (last ≡ true → rest ≡ [])
     → textFrom kept (window ++ rest)
-    ≡ take (call .played .used) (call .out)
-    ++ cond (call .played .ended)
+    ≡ take (turn .used) (call .out)
+    ++ cond (turn .ended)
     []
-    (textFrom
-    (keeping (call .played .number) (call .played .session) (call .sram))
-    (drop (call .played .place) window ++ rest))
+    (textFrom (keeping (turn .number) (call .played .session) (call .sram)) (drop (turn .place) window ++ rest))

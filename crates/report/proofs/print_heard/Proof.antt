@@ -7,15 +7,16 @@ use mathlib.Core.List.{[]}
 use lib.ListN.{length, length-append}
 use denote.Ref.{now}
 use Rattle.answers.specs.Answers.{numberOf}
+use Rattle.hearing.specs.Hearing.{asHears}
 use Rattle.text.specs.Lines.{recordLine}
 use Rattle.text.specs.Places.{asOutput}
 use Rattle.text.proofs.Laws.{record-length, last-length}
 use Rattle.report.proofs.print_heard.Statement.{statement}
 use Rattle.report.proofs.print_heard.Tie as tie
 use Rattle.report.specs.Steps.{Step, echoed, closing}
-use Rattle.report.specs.Windows.{stepLeaves, keeping}
-use Rattle.report.specs.Turns.{asHears}
-use Rattle.report.proofs.Laws.{told-bad, told-end, told-record, last-alone, last-behind}
+use Rattle.report.specs.Windows.{keeping}
+use Rattle.report.specs.Turns.{printedOf}
+use Rattle.report.proofs.Laws.{told-bad, told-end, told-record, last-behind}
 
 record-line-requires : tie.Need-record-line-requires
 record-line-requires c κs = search needs
@@ -30,7 +31,7 @@ returns : tie.Need-returns
 returns c =
     let line = c .before .before .before .before .before .before in
     let test = line .before .before in
-    let start = test .before .before .before .before .before in
+    let start = test .before .before .before .before .before .before in
     let a = start .args in
     let session = a .heard .reply .session in
     let kept = keeping (a .number) session [] in
@@ -38,10 +39,10 @@ returns c =
     let long : length text ≤ 59 = record-length (a .number) (a .heard .number) [] (omega arith) in
     let short = last-length (session .stage) in
     let bad = told-bad (a .number) (asHears (a .heard) []) (test .if1 .taken) in (
-      last-behind kept (c .before .before .print-last .result) (c .before .before .print-last .last .0) (now (a .out)) (a .used) text
+      last-behind (a .number) (session .stage) (c .before .before .print-last .result) (c .before .before .print-last .last .0) (now (a .out)) (a .used) text
           (asOutput (line .record-line .last .0) (line .record-line .result)) (omega (arith, long, short, start .pre .1)) (line .record-line .ensures)
           (c .before .before .print-last .ensures)
-          ∙ ap (λ (s : Step). stepLeaves s (asOutput (now (a .out)) (a .used))) bad,
+          ∙ ap (λ (s : Step). printedOf s (asOutput (now (a .out)) (a .used))) bad,
       omega (arith, long, short, length-append text (closing kept), ap (λ (s : Step). length (s .text)) bad),
     )
 
@@ -54,13 +55,11 @@ same-length-2 c = search needs
 returns-2 : tie.Need-returns-2
 returns-2 c =
     let test = c .before .before .before .before in
-    let start = test .before .before .before .before .before .before .before in
+    let start = test .before .before .before .before .before .before .before .before in
     let a = start .args in
     let session = a .heard .reply .session in
-    let kept = keeping (a .number) session [] in
     let end = told-end (a .number) (asHears (a .heard) []) (test .before .before .if1 .left) (test .if2 .taken) in (
-      last-alone kept (c .before .before .print-last2 .result) (c .before .before .print-last2 .last .0) (now (a .out)) (a .used) (c .before .before .print-last2 .ensures)
-          ∙ ap (λ (s : Step). stepLeaves s (asOutput (now (a .out)) (a .used))) end,
+      c .before .before .print-last2 .ensures ∙ ap (λ (s : Step). printedOf s (asOutput (now (a .out)) (a .used))) end,
       omega (arith, last-length (session .stage), ap (λ (s : Step). length (s .text)) end),
     )
 
@@ -74,11 +73,11 @@ returns-3 : tie.Need-returns-3
 returns-3 c =
     let print = c .before .before in
     let test = print .before .before in
-    let start = test .before .before .before .before .before .before .before in
+    let start = test .before .before .before .before .before .before .before .before in
     let a = start .args in
     let reply = a .heard .reply in
     let on = told-record (a .number) (asHears (a .heard) []) (test .before .before .if1 .left) (test .if2 .left) in (
-      print .print-record .ensures .0 ∙ ap (λ (s : Step). stepLeaves s (asOutput (now (a .out)) (a .used))) on,
+      print .print-record .ensures .0 ∙ ap (λ (s : Step). printedOf s (asOutput (now (a .out)) (a .used))) on,
       omega (arith, record-length (a .number) (numberOf (reply .answer .outcome)) (echoed (reply .answer .echo)) (print .print-record .ensures .1), ap (λ (s : Step). length (s .text)) on),
     )
 

@@ -1,12 +1,10 @@
 -- `report::print_last` meets its contract.
 use borrow.Author.Needs.{needs}
 use mathlib.Core.Path.{ap}
-use mathlib.Core.List.{[]}
 use mathlib.Core.Bool.{true}
+use Rattle.report.specs.Turns.{printedAt}
 use Rattle.report.proofs.print_last.Statement.{statement}
 use Rattle.report.proofs.print_last.Tie as tie
-use Rattle.report.specs.Windows.{keeping}
-use Rattle.report.proofs.Laws.{leavesBy}
 
 last-line-requires : tie.Need-last-line-requires
 last-line-requires c κs = search needs
@@ -17,7 +15,7 @@ same-length c = search needs
 returns : tie.Need-returns
 returns c =
     let a = c .before .before .before .before .before .args in
-    ap (leavesBy 0 true (keeping (a .number) (a .session) [])) (c .before .before .last-line .ensures)
+    ap (printedAt 0 true (a .number)) (c .before .before .last-line .ensures)
 
 pub print-last-spec : {M : Type 1} → statement M
 print-last-spec = tie.close (tie.spec last-line-requires same-length returns)

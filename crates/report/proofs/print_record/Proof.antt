@@ -5,14 +5,12 @@ use Prim.Native.Nat.{_+_}
 use native.Mathlib.Nat.{min-le-right}
 use native.Mathlib.Omega.{arith}
 use mathlib.Core.Path.{_≡_, ap, _∙_}
-use mathlib.Core.List.{[]}
 use mathlib.Core.Bool.{false}
 use Rattle.report.proofs.print_record.Statement.{statement}
 use Rattle.report.proofs.print_record.Tie as tie
-use Rattle.report.specs.Windows.{keeping}
-use Rattle.report.proofs.Laws.{leavesBy}
+use Rattle.report.specs.Turns.{printedAt}
 
-eight : (c : tie.Start) → length (c .args .reply .answer .echo .bytes) ≡ 8
+eight : (c : tie.Start) → length (c .args .answer .echo .bytes) ≡ 8
 eight c = search needs
 
 outcome-number-requires : tie.Need-outcome-number-requires
@@ -24,8 +22,8 @@ cast-record-line c = search needs
 record-line-requires : tie.Need-record-line-requires
 record-line-requires c κs = search needs
 
-add-t16 : tie.Need-add-t16
-add-t16 c = search needs
+add-t14 : tie.Need-add-t14
+add-t14 c = search needs
 
 same-length : tie.Need-same-length
 same-length c = search needs
@@ -34,11 +32,11 @@ returns : tie.Need-returns
 returns c =
     let line = c .before .before in
     let outcome = line .before .before .before in
-    let a = outcome .before .before .before .before .before .before .args in
-    let bytes = eight (outcome .before .before .before .before .before .before) in (
-      ap (leavesBy (a .taken) false (keeping (a .number + 1) (a .reply .session) [])) (line .record-line .ensures)
+    let a = outcome .before .before .before .before .args in
+    let bytes = eight (outcome .before .before .before .before) in (
+      ap (printedAt (a .taken) false (a .number + 1)) (line .record-line .ensures)
           ∙ rw (outcome .outcome-number .ensures),
-      omega (arith, bytes, length-take (a .reply .answer .echo .length) (a .reply .answer .echo .bytes), min-le-right (a .reply .answer .echo .length) (length (a .reply .answer .echo .bytes))),
+      omega (arith, bytes, length-take (a .answer .echo .length) (a .answer .echo .bytes), min-le-right (a .answer .echo .length) (length (a .answer .echo .bytes))),
     )
 
 pub print-record-spec : {M : Type 1} → statement M
@@ -48,6 +46,6 @@ print-record-spec =
     outcome-number-requires
     cast-record-line
     record-line-requires
-    add-t16
+    add-t14
     same-length
     returns)

@@ -1,4 +1,4 @@
--- `report::answer_record` meets its contract: a reset, and an item.
+-- `hearing::answer_record` meets its contract: a reset, and an item.
 use borrow.Author.Needs.{needs}
 use mathlib.Core.Path.{ap, _∙_}
 use mathlib.Core.List.{List}
@@ -7,10 +7,10 @@ use lib.ListN.{length}
 use denote.Ref.{now}
 use Rattle.items.specs.Items.{itemOf}
 use Rattle.rules.specs.Rules.{after}
-use Rattle.report.proofs.answer_record.Statement.{statement}
-use Rattle.report.proofs.answer_record.Tie as tie
-use Rattle.report.specs.Steps.{leading}
-use Rattle.report.proofs.Laws.{says-reset, says-item, item-lent}
+use Rattle.hearing.proofs.answer_record.Statement.{statement}
+use Rattle.hearing.proofs.answer_record.Tie as tie
+use Rattle.hearing.specs.Hearing.{leading}
+use Rattle.hearing.proofs.Laws.{says-reset, says-item, item-lent}
 
 opening-requires : tie.Need-opening-requires
 opening-requires c κs = search needs

@@ -1,7 +1,7 @@
--- `report::leading_bytes` meets its contract: a frame, and another record.
+-- `hearing::leading_bytes` meets its contract: a frame, and another record.
 use borrow.Author.Tests.{eq-eqb, ne-eqb}
-use Rattle.report.proofs.leading_bytes.Statement.{statement}
-use Rattle.report.proofs.leading_bytes.Tie as tie
+use Rattle.hearing.proofs.leading_bytes.Statement.{statement}
+use Rattle.hearing.proofs.leading_bytes.Tie as tie
 
 returns : tie.Need-returns
 returns c = rw (eq-eqb (c .before .args .kind) 1 (c .if1 .taken))
