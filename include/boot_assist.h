@@ -4,7 +4,8 @@
  *
  * Every call answers for every value of its arguments: it returns a number of the table below, and a call
  * that returns 6 or above has written nothing. The caller's part is what C cannot say: each pointer is valid
- * for its length and not null, also where the length is 0, and no output overlaps another argument.
+ * for its length and not null, also where the length is 0, and no output overlaps another argument. NAME_len is
+ * how many elements NAME has: bytes of a uint8_t list, numbers (not bytes) of a uint32_t or size_t list.
  *
  *    0  answered; the item was taken
  *    1  the item was ignored
@@ -123,8 +124,8 @@ enum boot_assist_port { BOOT_ASSIST_PORT_CAN = 0, BOOT_ASSIST_PORT_SERIAL = 1 };
 /* The numbers of a session. A number that the stage does not have is 0: the port is that of the password (always
  * serial), header and data stages; start and VLE are those of the data and jumped stages; the next address and
  * the bytes owed are those of the data stage; the refusal is that of the stopped stage. The places of HELD behind
- * COUNT may hold any byte; they keep it while more bytes are gathered, and after an item that leaves none held all
- * are 0. */
+ * COUNT may hold any byte; they keep it while more bytes are gathered, and after an item that is taken and leaves
+ * none held all are 0. */
 enum boot_assist_session_number {
     BOOT_ASSIST_SESSION_SELECTED = 0, /* 8 bytes: the password selected by the boot choice */
     BOOT_ASSIST_SESSION_STAGE = 8,    /* a boot_assist_stage */
@@ -200,6 +201,7 @@ enum boot_assist_kind {
 /*
  * A list of items, one call after another.
  *
+ * session, sram as for one item; written
  * kinds         a boot_assist_kind for each item: a frame, a clean or a faulty byte
  * identifiers   a number for each item: of a frame its identifier; of a serial byte it is not looked at
  * counts        a number for each item: how many of the bytes are its own, of a serial byte 1

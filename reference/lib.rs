@@ -1,7 +1,7 @@
 //! A second implementation of the boot assist, written from the papers (document 01,
 //! source documents 000, 002 and 003). It is kept apart from the proved code and shares
 //! no code with it; it exists so that the two can be handed the same inputs and their
-//! answers compared. docs/DECISIONS.md, 23, says what it was given beside the papers.
+//! answers compared. docs/DECISIONS.md, 23 and 56, says what it was given beside the papers.
 
 #![forbid(unsafe_code)]
 

@@ -79,7 +79,7 @@ numberDue session sram item =
 abbrev pub changesNothing : ℕ → Bool
 changesNothing number = eqb number 1 || leb 6 number
 
--- where an answer leaves the session: 2 to 4 "session stopped", 5 where the head jumps; of the others their rows say nothing
+-- where an answer leaves the session: 2 to 4 "session stopped", 5 where the head jumps; of the others no row names a stage
 abbrev pub stageSaid : Outcome → Stage → Stage
 stageSaid Outcome.Taken stage = stage
 stageSaid Outcome.Ignored stage = stage

@@ -91,7 +91,7 @@ asAfter reply sram =
 abbrev pub notTaken : Item → Outcome
 notTaken item = cond (wellFormed item) Outcome.Ignored (Outcome.Refused Fault.Form)
 
--- "no echo; nothing changed" (number 1), "number only; nothing changed" (numbers 6, 7 and 8)
+-- no echo, and the session as it is handed in: "no echo; nothing changed" (number 1), "number only; nothing changed" (numbers 6, 7 and 8)
 abbrev pub left : Outcome → Session → Reply
 left outcome session = record { answer = record { outcome = outcome; echo = noEcho }; session = session }
 

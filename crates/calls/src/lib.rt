@@ -6,7 +6,6 @@ ghost use lib.Dec.{eqb};
 ghost use lib.ListN.{length};
 ghost use Rattle.answers.specs.Answers.{asAfter};
 ghost use Rattle.items.specs.Items.{Item};
-ghost use Rattle.encoding.specs.Writing.{sessionNumbers};
 ghost use Rattle.calls.specs.Crossing.{asReply, itemDue, itemReply, leaves};
 use answers::Due;
 use answers::Outcome;

@@ -82,7 +82,7 @@ unsoundSession = record { selected = replicate 8 0; stage = Stage.Waiting; held 
 unfoldable pub sessionIn : List ℕ → Session
 sessionIn numbers = cond (encodes numbers) (sessionRead numbers) unsoundSession
 
--- what `numbers::session_numbers` promises of the numbers r of a session: they are its numbers, and every call reads them as the session
+-- what `encoding::session_numbers` promises of the numbers r of a session: they are its numbers, and every call reads them as the session
 pub record Encoding (session : Session) (r : List ℕ) : Type 0 where
   pub equation : r ≡ sessionNumbers session
   pub reads-back : sessionIn r ≡ session

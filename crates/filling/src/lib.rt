@@ -1,6 +1,6 @@
 // Bytes and numbers written over the first places of a slice, and bytes moved to its start.
 ghost use mathlib.Core.Path.{_≡_};
-ghost use Prim.Native.Nat.{_+_, _-_, _≤_};
+ghost use Prim.Native.Nat.{_-_, _≤_};
 ghost use Rattle.filling.specs.Write.{over, filled};
 ghost use lib.ListN.{length, drop};
 

@@ -1,6 +1,5 @@
 // Items (01, "A serial session"): which are refused for their form, and which each stage takes.
 ghost use mathlib.Core.Path.{_≡_};
-ghost use mathlib.Core.Bool.{true};
 ghost use Rattle.items.specs.Items.{Item, itemOf, wellFormed, eightUnder, dataUnder};
 ghost use Rattle.items.specs.Taking.{takes};
 use stages::Port;

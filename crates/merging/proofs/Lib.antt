@@ -2,5 +2,3 @@ pub mod Ports
 pub mod Splitting
 pub mod Forward
 pub mod Stream
-pub mod Handing
-pub mod Claiming

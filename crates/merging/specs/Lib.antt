@@ -1,4 +1,3 @@
 pub mod Running
 pub mod Plain
 pub mod Merging
-pub mod Listing

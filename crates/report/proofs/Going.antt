@@ -13,12 +13,12 @@ use Rattle.text.specs.Lines.{recordLine}
 use Rattle.capture.specs.Records.{Read, found}
 use Rattle.capture.proofs.Laws.{found-next}
 use Rattle.capture.proofs.Window.{window as fourteen}
-use Rattle.hearing.specs.Hearing.{says}
-use Rattle.report.specs.Steps.{Kept, Step, recorded, closing, ends, stepOf, stepFrom, textIn, textFrom}
+use Rattle.records.specs.Handling.{says}
+use Rattle.report.specs.Steps.{Carried, Step, recorded, closing, ends, stepOf, stepFrom, textIn, textFrom}
 use Rattle.report.specs.Windows.{Playing, atFirst, onward, ready, plays, playedIn, leftBy, Goes}
 
 -- a step takes no more than there is, and at least 4 bytes where the text goes on
-module _ (kept : Kept) (read : Read) (most : ℕ) (within : read .number ≡ 0 → (read .kind ≡ 0 → ⊥) → (4 ≤ read .next) × (read .next ≤ most)) where
+module _ (kept : Carried) (read : Read) (most : ℕ) (within : read .number ≡ 0 → (read .kind ≡ 0 → ⊥) → (4 ≤ read .next) × (read .next ≤ most)) where
   abbrev Inside : Step → Type 0
   Inside step = (step .taken ≤ most) × (step .over ≡ false → 4 ≤ step .taken)
 
@@ -45,7 +45,7 @@ module _ (kept : Kept) (read : Read) (most : ℕ) (within : read .number ≡ 0 �
       refl
       refl
 
-pub step-within : (kept : Kept) (bytes : List ℕ)
+pub step-within : (kept : Carried) (bytes : List ℕ)
     → (stepFrom kept bytes .taken ≤ length bytes) × (stepFrom kept bytes .over ≡ false → 4 ≤ stepFrom kept bytes .taken)
 step-within kept bytes =
     step-of-within kept (found 0 bytes) (length bytes)
@@ -57,7 +57,7 @@ alike true text other h = refl
 alike false text other h = h refl
 
 -- more records than there are bytes for change nothing
-more-alike : (k m : ℕ) (kept : Kept) (bytes : List ℕ) → length bytes < k → length bytes < m → textIn k kept bytes ≡ textIn m kept bytes
+more-alike : (k m : ℕ) (kept : Carried) (bytes : List ℕ) → length bytes < k → length bytes < m → textIn k kept bytes ≡ textIn m kept bytes
 more-alike zero m kept bytes h i = absurd (omega arith)
 more-alike (suc k) zero kept bytes h i = absurd (omega arith)
 more-alike (suc k) (suc m) kept bytes h i =
@@ -70,7 +70,7 @@ more-alike (suc k) (suc m) kept bytes h i =
     more-alike k m (step .kept) rest (omega (arith, some .0, some .1 e, many, h)) (omega (arith, some .0, some .1 e, many, i))))
 
 -- the text is the first record's, and then that of the rest
-pub text-step : (kept : Kept) (bytes : List ℕ)
+pub text-step : (kept : Carried) (bytes : List ℕ)
     → textFrom kept bytes
     ≡ stepFrom kept bytes .text
     ++ cond (stepFrom kept bytes .over) [] (textFrom (stepFrom kept bytes .kept) (drop (stepFrom kept bytes .taken) bytes))
@@ -97,7 +97,7 @@ module _ (window : List ℕ) (last : Bool) (room : ℕ) (rest : List ℕ) (none 
       by-last true e h = rw (none e, append-nil left)
       by-last false e h = fourteen 0 (left ++ rest) left (take-append-le 14 left rest (leb-true 14 (length left) h))
 
-  -- what `ready` tells
+  -- what `ready` says
   going : (p : Playing) → ready window last room p ≡ true → (p .ended ≡ false) × (last || leb 14 (length (drop (p .place) window)) ≡ true)
   unfolding ready
   going p h =
@@ -139,7 +139,7 @@ module _ (window : List ℕ) (last : Bool) (room : ℕ) (rest : List ℕ) (none 
       by-ready false e h = refl
 
 -- the claim of a call, of what its equation says that it leaves
-pub windows-join : (window : List ℕ) (last : Bool) (room : ℕ) (kept : Kept) (out : List ℕ)
+pub windows-join : (window : List ℕ) (last : Bool) (room : ℕ) (kept : Carried) (out : List ℕ)
     → Goes window last kept (leftBy (playedIn window last room kept) out)
 unfolding playedIn
 windows-join window last room kept out rest none =

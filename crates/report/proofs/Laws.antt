@@ -1,4 +1,4 @@
--- What is told of a record, and that it is a step.
+-- What is printed of a record that was handled, and that the two together are a step.
 use Prim.Native.Nat.{ℕ, _+_, _≤_}
 use mathlib.Core.Path.{_≡_, refl, ap, _∙_}
 use mathlib.Core.List.{List, [], _++_}
@@ -13,32 +13,32 @@ use Rattle.capture.specs.Records.{Read}
 use Rattle.text.specs.Lines.{recordLine, lastLine}
 use Rattle.text.specs.Places.{Output, asOutput, appended}
 use Rattle.text.proofs.Laws.{appended-twice}
-use Rattle.hearing.specs.declared.Heard.{Heard}
-use Rattle.hearing.specs.Hearing.{says, Hears, asHears, hearsOf}
+use Rattle.records.specs.declared.Handled.{Handled}
+use Rattle.records.specs.Handling.{says, Handles, asHandles, handlesOf}
 use Rattle.report.specs.declared.Turn.{Turn}
-use Rattle.report.specs.Steps.{Kept, Step, recorded, closing, ends, stepOf}
+use Rattle.report.specs.Steps.{Carried, Step, recorded, closing, ends, stepOf}
 use Rattle.report.specs.Windows.{Leaves, asLeaves, keeping}
-use Rattle.report.specs.Turns.{keptAfter, toldOf, Printed, asPrinted, printedAt, printedOf, turnBehind}
+use Rattle.report.specs.Turns.{keptAfter, stepAfter, Printed, asPrinted, printedAt, printedOf, turnBehind}
 
--- What is told, end by end.
-module _ (number : ℕ) (hears : Hears) where
-  pub told-bad : (hears .number ≡ 0 → ⊥)
-      → ends (keptAfter number hears) (recordLine number (hears .number) [] ++ closing (keptAfter number hears)) ≡ toldOf number hears
-  unfolding toldOf
-  told-bad h = rw (ne-eqb (hears .number) 0 h)
+-- The step of a record that was handled, case by case.
+module _ (number : ℕ) (handles : Handles) where
+  pub told-bad : (handles .number ≡ 0 → ⊥)
+      → ends (keptAfter number handles) (recordLine number (handles .number) [] ++ closing (keptAfter number handles)) ≡ stepAfter number handles
+  unfolding stepAfter
+  told-bad h = rw (ne-eqb (handles .number) 0 h)
 
-  pub told-end : hears .number ≡ 0 → hears .kind ≡ 0 → ends (keptAfter number hears) (closing (keptAfter number hears)) ≡ toldOf number hears
-  unfolding toldOf
-  told-end e h = rw (eq-eqb (hears .number) 0 e, eq-eqb (hears .kind) 0 h)
+  pub told-end : handles .number ≡ 0 → handles .kind ≡ 0 → ends (keptAfter number handles) (closing (keptAfter number handles)) ≡ stepAfter number handles
+  unfolding stepAfter
+  told-end e h = rw (eq-eqb (handles .number) 0 e, eq-eqb (handles .kind) 0 h)
 
-  pub told-record : hears .number ≡ 0 → (hears .kind ≡ 0 → ⊥) → recorded (keptAfter number hears) (hears .taken) (hears .call) ≡ toldOf number hears
-  unfolding toldOf
-  told-record e h = rw (eq-eqb (hears .number) 0 e, ne-eqb (hears .kind) 0 h)
+  pub told-record : handles .number ≡ 0 → (handles .kind ≡ 0 → ⊥) → recorded (keptAfter number handles) (handles .taken) (handles .call) ≡ stepAfter number handles
+  unfolding stepAfter
+  told-record e h = rw (eq-eqb (handles .number) 0 e, ne-eqb (handles .kind) 0 h)
 
--- what is told of what is heard is the step
-pub told-heard : (kept : Kept) (read : Read) → toldOf (kept .number) (hearsOf (kept .session) (kept .sram) read) ≡ stepOf kept read
-unfolding toldOf hearsOf stepOf
-told-heard kept read =
+-- the two halves together are the step
+pub told-handled : (kept : Carried) (read : Read) → stepAfter (kept .number) (handlesOf (kept .session) (kept .sram) read) ≡ stepOf kept read
+unfolding stepAfter handlesOf stepOf
+told-handled kept read =
     by-tests
     (says (kept .session) (kept .sram) (read .kind) (read .body))
     (eqb (read .number) 0)
@@ -46,10 +46,10 @@ told-heard kept read =
   where
     by-tests
         : (call : After) (n k : Bool)
-        → (let heard : After = cond (n && not k) call (unchanged Outcome.Ignored (kept .session) (kept .sram)) in
-        let after : Kept = keeping (kept .number) (heard .session) (heard .sram) in
+        → (let handled : After = cond (n && not k) call (unchanged Outcome.Ignored (kept .session) (kept .sram)) in
+        let after : Carried = keeping (kept .number) (handled .session) (handled .sram) in
         cond n
-        (cond k (ends after (closing after)) (recorded after (read .next) heard))
+        (cond k (ends after (closing after)) (recorded after (read .next) handled))
         (ends after (recordLine (kept .number) (read .number) [] ++ closing after)))
         ≡ cond n
         (cond k (ends kept (closing kept)) (recorded kept (read .next) call))
@@ -71,7 +71,7 @@ last-behind number stage turn after bytes used line out room first e =
     ∙ ap (printedAt 0 true number) (appended-twice bytes used line (lastLine stage) room)
 
 -- one record: what a call leaves after it, with its text behind what the output holds already
-abbrev pub leavesWith : Printed → Kept → Leaves
+abbrev pub leavesWith : Printed → Carried → Leaves
 leavesWith printed kept =
     asLeaves record { turn = printed .turn; session = kept .session } (kept .sram) (printed .out)
 
@@ -83,18 +83,18 @@ abbrev pub movedOn : ℕ → Leaves → Leaves
 movedOn place call =
     asLeaves record { turn = turnBehind place (call .played .turn); session = call .played .session } (call .sram) (call .out)
 
--- SRAM and the session come from what is heard, and what is printed does not depend on SRAM
-module _ (number : ℕ) (heard : Heard) (sram : List ℕ) where
+-- SRAM and the session are as the record left them, and what is printed does not depend on SRAM
+module _ (number : ℕ) (handled : Handled) (sram : List ℕ) where
   told : Bool → Bool → List ℕ → Step
   told n k memory =
-      let hears : Hears = asHears heard memory in
+      let handles : Handles = asHandles handled memory in
       cond n
-      (cond k (ends (keptAfter number hears) (closing (keptAfter number hears))) (recorded (keptAfter number hears) (hears .taken) (hears .call)))
-      (ends (keptAfter number hears) (recordLine number (hears .number) [] ++ closing (keptAfter number hears)))
+      (cond k (ends (keptAfter number handles) (closing (keptAfter number handles))) (recorded (keptAfter number handles) (handles .taken) (handles .call)))
+      (ends (keptAfter number handles) (recordLine number (handles .number) [] ++ closing (keptAfter number handles)))
 
   abbrev Same : Bool → Bool → Type 0
   Same n k =
-      ((out : Output) → leavesWith (printedOf (told n k []) out) (keptAfter number (asHears heard sram)) ≡ stepLeaves (told n k sram) out)
+      ((out : Output) → leavesWith (printedOf (told n k []) out) (keptAfter number (asHandles handled sram)) ≡ stepLeaves (told n k sram) out)
       × (told n k [] .text ≡ told n k sram .text)
 
   by-test : (n k : Bool) → Same n k
@@ -104,24 +104,24 @@ module _ (number : ℕ) (heard : Heard) (sram : List ℕ) where
   by-test false k = ((λ out. refl), refl)
 
   pub told-same
-      : ((out : Output) → leavesWith (printedOf (toldOf number (asHears heard [])) out) (keptAfter number (asHears heard sram)) ≡ stepLeaves (toldOf number (asHears heard sram)) out)
-      × (toldOf number (asHears heard []) .text ≡ toldOf number (asHears heard sram) .text)
-  unfolding toldOf told
-  told-same = by-test (eqb (heard .number) 0) (eqb (heard .kind) 0)
+      : ((out : Output) → leavesWith (printedOf (stepAfter number (asHandles handled [])) out) (keptAfter number (asHandles handled sram)) ≡ stepLeaves (stepAfter number (asHandles handled sram)) out)
+      × (stepAfter number (asHandles handled []) .text ≡ stepAfter number (asHandles handled sram) .text)
+  unfolding stepAfter told
+  told-same = by-test (eqb (handled .number) 0) (eqb (handled .kind) 0)
 
--- what is told of what was heard is a step
-module _ (kept : Kept) (read : Read) (heard : Heard) (sram : List ℕ) (heard-is : asHears heard sram ≡ hearsOf (kept .session) (kept .sram) read) where
-  step-is : toldOf (kept .number) (asHears heard sram) ≡ stepOf kept read
-  step-is = ap (toldOf (kept .number)) heard-is ∙ told-heard kept read
+-- the same of what `records::handle` returned
+module _ (kept : Carried) (read : Read) (handled : Handled) (sram : List ℕ) (handled-is : asHandles handled sram ≡ handlesOf (kept .session) (kept .sram) read) where
+  step-is : stepAfter (kept .number) (asHandles handled sram) ≡ stepOf kept read
+  step-is = ap (stepAfter (kept .number)) handled-is ∙ told-handled kept read
 
-  pub step-text : toldOf (kept .number) (asHears heard []) .text ≡ stepOf kept read .text
-  step-text = told-same (kept .number) heard sram .1 ∙ ap (λ (s : Step). s .text) step-is
+  pub step-text : stepAfter (kept .number) (asHandles handled []) .text ≡ stepOf kept read .text
+  step-text = told-same (kept .number) handled sram .1 ∙ ap (λ (s : Step). s .text) step-is
 
   pub step-leaves
       : (told : Turn) (after : List ℕ) (out : Output)
-      → asPrinted told after ≡ printedOf (toldOf (kept .number) (asHears heard [])) out
-      → asLeaves record { turn = told; session = heard .reply .session } sram after ≡ stepLeaves (stepOf kept read) out
+      → asPrinted told after ≡ printedOf (stepAfter (kept .number) (asHandles handled [])) out
+      → asLeaves record { turn = told; session = handled .reply .session } sram after ≡ stepLeaves (stepOf kept read) out
   step-leaves told after out e =
-      ap (λ (p : Printed). leavesWith p (keptAfter (kept .number) (asHears heard sram))) e
-      ∙ told-same (kept .number) heard sram .0 out
+      ap (λ (p : Printed). leavesWith p (keptAfter (kept .number) (asHandles handled sram))) e
+      ∙ told-same (kept .number) handled sram .0 out
       ∙ ap (λ (s : Step). stepLeaves s out) step-is

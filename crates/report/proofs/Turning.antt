@@ -12,12 +12,12 @@ use Rattle.text.specs.Places.{Output, asOutput, appended}
 use Rattle.text.proofs.Laws.{appended-behind}
 use Rattle.stages.specs.declared.Session.{Session}
 use Rattle.capture.specs.Records.{found}
-use Rattle.hearing.specs.declared.Heard.{Heard}
-use Rattle.hearing.specs.Hearing.{asHears, hearsOf}
+use Rattle.records.specs.declared.Handled.{Handled}
+use Rattle.records.specs.Handling.{asHandles, handlesOf}
 use Rattle.report.specs.declared.Turn.{Turn}
-use Rattle.report.specs.Steps.{Kept, Step, stepFrom}
+use Rattle.report.specs.Steps.{Carried, Step, stepFrom}
 use Rattle.report.specs.Windows.{Playing, startOf, onward, readyIn, ready, plays, playedIn, Leaves, asLeaves, leftBy, keeping}
-use Rattle.report.specs.Turns.{toldOf, asPrinted, printedAt, printedOf, turnBehind}
+use Rattle.report.specs.Turns.{stepAfter, asPrinted, printedAt, printedOf, turnBehind}
 use Rattle.report.proofs.Laws.{leavesWith, stepLeaves, movedOn, step-text, step-leaves}
 use Rattle.report.proofs.Going.{step-within}
 
@@ -31,7 +31,7 @@ stateOf text turn session sram =
       kept = keeping (turn .number) session sram;
     }
 
-pub record Turning (window : List ℕ) (last : Bool) (kept : Kept) (first : List ℕ) (turn : Turn) (session : Session) (sram out : List ℕ) : Type 0 where
+pub record Turning (window : List ℕ) (last : Bool) (kept : Carried) (first : List ℕ) (turn : Turn) (session : Session) (sram out : List ℕ) : Type 0 where
   pub text : List ℕ
   pub more : ℕ
   pub used : turn .used ≡ length text
@@ -45,7 +45,7 @@ pub record Turning (window : List ℕ) (last : Bool) (kept : Kept) (first : List
 abbrev pub leftIn : List ℕ → Turn → ℕ
 leftIn window turn = cond (turn .ended) 0 (suc (length window - turn .place))
 
-pub turning-first : (window : List ℕ) (last : Bool) (kept : Kept) (out : List ℕ)
+pub turning-first : (window : List ℕ) (last : Bool) (kept : Carried) (out : List ℕ)
     → Turning window last kept out (startOf kept .turn) (kept .session) (kept .sram) out
 unfolding playedIn
 turning-first window last kept out =
@@ -60,7 +60,7 @@ turning-first window last kept out =
       same = refl;
     }
 
-module _ (window : List ℕ) (last : Bool) (kept : Kept) (first : List ℕ) (turn : Turn) (session : Session) (sram out : List ℕ) (here : Turning window last kept first turn session sram out) where
+module _ (window : List ℕ) (last : Bool) (kept : Carried) (first : List ℕ) (turn : Turn) (session : Session) (sram out : List ℕ) (here : Turning window last kept first turn session sram out) where
   abbrev Tested : Bool → Type 0
   Tested t = t ≡ readyIn (length window - turn .place) last (length out - turn .used) (turn .ended) (turn .number)
 
@@ -76,7 +76,7 @@ module _ (window : List ℕ) (last : Bool) (kept : Kept) (first : List ℕ) (tur
   unfolding ready
   ready-same t e = e ∙ rw (here .used, turning-long)
 
-  -- what it tells: the text goes on, and its record, its text and its number have room
+  -- what it says: the text goes on, and its record, its text and its number have room
   pub turning-room : (t : Bool) → Tested t → t ≡ true
       → (turn .ended ≡ false) × (turn .used + 96 ≤ length out) × (turn .number < 0xFFFF_FFFF_FFFF_FFFF)
   turning-room t e yes-ready =
@@ -101,7 +101,7 @@ module _ (window : List ℕ) (last : Bool) (kept : Kept) (first : List ℕ) (tur
       done (suc more) = rw (← ready-same t e, stopped)
 
   -- one record more
-  abbrev before : Kept
+  abbrev before : Carried
   before = keeping (turn .number) session sram
 
   abbrev left : List ℕ
@@ -181,23 +181,23 @@ module _ (window : List ℕ) (last : Bool) (kept : Kept) (first : List ℕ) (tur
         by-end true o = omega arith
         by-end false o = omega (arith, place-is, within, step-within before left .1 o)
 
-  -- what was heard at the place and told of it
-  module _ (heard : Heard) (told : Turn) (next-sram next-out : List ℕ)
-      (heard-is : asHears heard next-sram ≡ hearsOf session sram (found 0 left))
-      (told-is : asPrinted told next-out ≡ printedOf (toldOf (turn .number) (asHears heard [])) (asOutput out (turn .used))) where
-    told-step : asLeaves record { turn = told; session = heard .reply .session } next-sram next-out ≡ stepLeaves (stepFrom before left) (asOutput out (turn .used))
-    told-step = step-leaves before (found 0 left) heard next-sram heard-is told next-out (asOutput out (turn .used)) told-is
+  -- the record at the place, handled and printed
+  module _ (handled : Handled) (told : Turn) (next-sram next-out : List ℕ)
+      (handled-is : asHandles handled next-sram ≡ handlesOf session sram (found 0 left))
+      (told-is : asPrinted told next-out ≡ printedOf (stepAfter (turn .number) (asHandles handled [])) (asOutput out (turn .used))) where
+    told-step : asLeaves record { turn = told; session = handled .reply .session } next-sram next-out ≡ stepLeaves (stepFrom before left) (asOutput out (turn .used))
+    told-step = step-leaves before (found 0 left) handled next-sram handled-is told next-out (asOutput out (turn .used)) told-is
 
     -- the turn that `report::turn_behind` makes of it
     pub turn-told : (next : Turn) → next ≡ turnBehind (turn .place) told
-        → asLeaves record { turn = next; session = heard .reply .session } next-sram next-out
+        → asLeaves record { turn = next; session = handled .reply .session } next-sram next-out
         ≡ movedOn (turn .place) (stepLeaves (stepFrom before left) (asOutput out (turn .used)))
     turn-told next e =
-        ap (λ (n : Turn). asLeaves record { turn = n; session = heard .reply .session } next-sram next-out) e
+        ap (λ (n : Turn). asLeaves record { turn = n; session = handled .reply .session } next-sram next-out) e
         ∙ ap (movedOn (turn .place)) told-step
 
-    pub turn-short : length (toldOf (turn .number) (asHears heard []) .text) ≤ 96 → length (stepFrom before left .text) ≤ 96
-    turn-short h = subst (λ (l : List ℕ). length l ≤ 96) (step-text before (found 0 left) heard next-sram heard-is) h
+    pub turn-short : length (stepAfter (turn .number) (asHandles handled []) .text) ≤ 96 → length (stepFrom before left .text) ≤ 96
+    turn-short h = subst (λ (l : List ℕ). length l ≤ 96) (step-text before (found 0 left) handled next-sram handled-is) h
 
     pub turn-within : turn .place + told .place ≤ length window
     turn-within =

@@ -12,16 +12,16 @@ use Rattle.answers.specs.declared.Echo.{Echo}
 use Rattle.answers.specs.Answers.{After}
 use Rattle.capture.specs.Records.{Read, found}
 use Rattle.text.specs.Lines.{recordLine, lastLine}
-use Rattle.hearing.specs.Hearing.{says}
+use Rattle.records.specs.Handling.{says}
 
 -- what the program keeps from record to record: the number of the next record, the session and SRAM
-pub record Kept : Type 0 where
+pub record Carried : Type 0 where
   pub number : ℕ
   pub session : Session
   pub sram : List ℕ
 
 -- "with zeroed SRAM and the public password"; "its number from 1"
-abbrev pub beginning : Kept
+abbrev pub beginning : Carried
 beginning = record { number = 1; session = freshSession publicPassword; sram = replicate size 0 }
 
 -- "the echoed data"
@@ -33,9 +33,9 @@ pub record Step : Type 0 where
   pub text : List ℕ
   pub taken : ℕ
   pub over : Bool
-  pub kept : Kept
+  pub kept : Carried
 
-abbrev pub recorded : Kept → ℕ → After → Step
+abbrev pub recorded : Carried → ℕ → After → Step
 recorded kept taken call =
     record {
       text = recordLine (kept .number) (call .number) (echoed (call .answer .echo));
@@ -45,14 +45,14 @@ recorded kept taken call =
     }
 
 -- "then one last line"
-abbrev pub closing : Kept → List ℕ
+abbrev pub closing : Carried → List ℕ
 closing kept = lastLine (kept .session .stage)
 
-abbrev pub ends : Kept → List ℕ → Step
+abbrev pub ends : Carried → List ℕ → Step
 ends kept text = record { text = text; taken = 0; over = true; kept = kept }
 
 -- "A 10 prints its line with "-" and ends the reading"; at the end mark there is the last line alone
-unfoldable pub stepOf : Kept → Read → Step
+unfoldable pub stepOf : Carried → Read → Step
 stepOf kept read =
     cond (eqb (read .number) 0)
     (cond (eqb (read .kind) 0)
@@ -61,16 +61,16 @@ stepOf kept read =
     (ends kept (recordLine (kept .number) (read .number) [] ++ closing kept))
 
 -- with the capture's bytes from the record on
-abbrev pub stepFrom : Kept → List ℕ → Step
+abbrev pub stepFrom : Carried → List ℕ → Step
 stepFrom kept bytes = stepOf kept (found 0 bytes)
 
 -- the text for a capture from a record on, of at most so many records
-abbrev pub textIn : ℕ → Kept → List ℕ → List ℕ
+abbrev pub textIn : ℕ → Carried → List ℕ → List ℕ
 textIn zero kept bytes = []
 textIn (suc more) kept bytes =
     stepFrom kept bytes .text
     ++ cond (stepFrom kept bytes .over) [] (textIn more (stepFrom kept bytes .kept) (drop (stepFrom kept bytes .taken) bytes))
 
 -- no record is without bytes, so there are at most as many as bytes, and the end
-unfoldable pub textFrom : Kept → List ℕ → List ℕ
+unfoldable pub textFrom : Carried → List ℕ → List ℕ
 textFrom kept bytes = textIn (suc (length bytes)) kept bytes

@@ -1,25 +1,27 @@
--- One turn of the loop in two halves: what is heard of a record, and what is told of it. Together they are a step.
+-- One turn of the loop in two halves: a record is handled (`handlesOf` of `records`), and its text is printed. Together they are a step.
 use Prim.Native.Nat.{ℕ, _+_}
 use mathlib.Core.List.{List, [], _++_}
 use mathlib.Core.Bool.{Bool, cond}
 use lib.Dec.{eqb}
 use Rattle.text.specs.Lines.{recordLine}
 use Rattle.text.specs.Places.{Output, appended}
-use Rattle.hearing.specs.Hearing.{Hears}
+use Rattle.records.specs.Handling.{Handles}
 use Rattle.report.specs.declared.Turn.{Turn}
-use Rattle.report.specs.Steps.{Kept, Step, recorded, closing, ends}
+use Rattle.report.specs.Steps.{Carried, Step, recorded, closing, ends}
 use Rattle.report.specs.Windows.{keeping}
 
-abbrev pub keptAfter : ℕ → Hears → Kept
-keptAfter number hears = keeping number (hears .call .session) (hears .call .sram)
+-- what is kept after it
+abbrev pub keptAfter : ℕ → Handles → Carried
+keptAfter number handles = keeping number (handles .call .session) (handles .call .sram)
 
-unfoldable pub toldOf : ℕ → Hears → Step
-toldOf number hears =
-    cond (eqb (hears .number) 0)
-    (cond (eqb (hears .kind) 0)
-    (ends (keptAfter number hears) (closing (keptAfter number hears)))
-    (recorded (keptAfter number hears) (hears .taken) (hears .call)))
-    (ends (keptAfter number hears) (recordLine number (hears .number) [] ++ closing (keptAfter number hears)))
+-- the step of a record that was handled
+unfoldable pub stepAfter : ℕ → Handles → Step
+stepAfter number handles =
+    cond (eqb (handles .number) 0)
+    (cond (eqb (handles .kind) 0)
+    (ends (keptAfter number handles) (closing (keptAfter number handles)))
+    (recorded (keptAfter number handles) (handles .taken) (handles .call)))
+    (ends (keptAfter number handles) (recordLine number (handles .number) [] ++ closing (keptAfter number handles)))
 
 -- a function that prints: the turn that it returns, and the output as it leaves it
 pub record Printed : Type 0 where

@@ -8,24 +8,24 @@ use lib.Dec.{leb, ltb}
 use Rattle.filling.specs.Write.{over}
 use Rattle.stages.specs.declared.Session.{Session}
 use Rattle.report.specs.declared.Played.{Played}
-use Rattle.report.specs.Steps.{Kept, stepFrom, textFrom}
+use Rattle.report.specs.Steps.{Carried, stepFrom, textFrom}
 
 -- Where a call is: the next place in the window, the text so far, whether it has ended, and what is kept
 pub record Playing : Type 0 where
   pub place : ℕ
   pub text : List ℕ
   pub ended : Bool
-  pub kept : Kept
+  pub kept : Carried
 
 -- as a call has it before the first record
-abbrev pub startOf : Kept → Played
+abbrev pub startOf : Carried → Played
 startOf kept =
     record {
       turn = record { place = 0; used = 0; ended = false; number = kept .number };
       session = kept .session;
     }
 
-abbrev pub atFirst : Kept → Playing
+abbrev pub atFirst : Carried → Playing
 atFirst kept = record { place = 0; text = []; ended = false; kept = kept }
 
 abbrev pub onward : List ℕ → Playing → Playing
@@ -54,7 +54,7 @@ plays zero window last room p = p
 plays (suc more) window last room p =
     cond (ready window last room p) (plays more window last room (onward window p)) p
 
-unfoldable pub playedIn : List ℕ → Bool → ℕ → Kept → Playing
+unfoldable pub playedIn : List ℕ → Bool → ℕ → Carried → Playing
 playedIn window last room kept = plays (suc (length window)) window last room (atFirst kept)
 
 -- a call: what it returns, and SRAM and the output as it leaves them
@@ -82,12 +82,12 @@ leftBy p out =
       out = over (p .text) out;
     }
 
-abbrev pub keeping : ℕ → Session → List ℕ → Kept
+abbrev pub keeping : ℕ → Session → List ℕ → Carried
 keeping number session sram = record { number = number; session = session; sram = sram }
 
 -- Whatever follows the window, which is nothing after the last one, the text for the capture is what this call wrote, and then the
 -- text from the next place on, with what is kept by then.
-abbrev pub Goes : List ℕ → Bool → Kept → Leaves → Type 0
+abbrev pub Goes : List ℕ → Bool → Carried → Leaves → Type 0
 Goes window last kept call =
     let turn = call .played .turn in
     (rest : List ℕ)

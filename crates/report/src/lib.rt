@@ -1,4 +1,4 @@
-// The text for a capture (01, "The truck's capture file"): each record is heard and its line is printed.
+// The text for a capture (01, "The truck's capture file"): each record is handled and its line is printed.
 ghost use mathlib.Core.Path.{_≡_};
 ghost use mathlib.Core.Bool.{true, false};
 ghost use Prim.Native.Nat.{_+_, _-_, _≤_, _<_};
@@ -7,12 +7,12 @@ ghost use lib.ListN.{length};
 ghost use Rattle.answers.specs.Answers.{numberOf};
 ghost use Rattle.text.specs.Lines.{recordLine, lastLine};
 ghost use Rattle.text.specs.Places.{asOutput, appended};
-ghost use Rattle.hearing.specs.Hearing.{asHears};
+ghost use Rattle.records.specs.Handling.{asHandles};
 ghost use Rattle.report.specs.Steps.{beginning, echoed};
 ghost use Rattle.report.specs.Windows.{startOf, readyIn, playedIn, asLeaves, leftBy, keeping, Goes};
-ghost use Rattle.report.specs.Turns.{toldOf, asPrinted, printedAt, printedOf, turnBehind};
+ghost use Rattle.report.specs.Turns.{stepAfter, asPrinted, printedAt, printedOf, turnBehind};
 use answers::Answer;
-use hearing::Heard;
+use records::Handled;
 use stages::Session;
 use stages::Stage;
 
@@ -49,7 +49,7 @@ pub fn begin() -> Played
 {
     Played {
         turn: first_turn(1),
-        session: hearing::opening(),
+        session: records::opening(),
     }
 }
 
@@ -90,24 +90,24 @@ fn print_record(out: &mut [u8], used: usize, number: u64, taken: usize, answer: 
     }
 }
 
-// Prints what was heard.
-fn print_heard(heard: Heard, number: u64, out: &mut [u8], used: usize) -> Turn
+// Prints a record that was handled.
+fn print_handled(handled: Handled, number: u64, out: &mut [u8], used: usize) -> Turn
     requires { ⌜ (number < 0xFFFF_FFFF_FFFF_FFFF) × (used + 96 ≤ length (now out)) ⌝ }
-    ensures { λ r. ⌜ asPrinted r (now (out .exit)) ≡ printedOf (toldOf number (asHears heard [])) (asOutput (now (out .entry)) used) ⌝ }
-    ensures { λ _. ⌜ length (toldOf number (asHears heard []) .text) ≤ 96 ⌝ }
+    ensures { λ r. ⌜ asPrinted r (now (out .exit)) ≡ printedOf (stepAfter number (asHandles handled [])) (asOutput (now (out .entry)) used) ⌝ }
+    ensures { λ _. ⌜ length (stepAfter number (asHandles handled []) .text) ≤ 96 ⌝ }
 {
-    let reply = heard.reply;
+    let reply = handled.reply;
     let answer = reply.answer;
     let session = reply.session;
     let stage = session.stage;
-    if heard.number != 0 {
-        let said = text::record_line(out, used, number, heard.number, [0; 8], 0);
+    if handled.number != 0 {
+        let said = text::record_line(out, used, number, handled.number, [0; 8], 0);
         return print_last(out, said, number, stage);
     }
-    if heard.kind == 0 {
+    if handled.kind == 0 {
         return print_last(out, used, number, stage);
     }
-    print_record(out, used, number, heard.taken, answer)
+    print_record(out, used, number, handled.taken, answer)
 }
 
 // The turn behind a place of the window.
@@ -154,10 +154,10 @@ pub fn play(
     let mut current = session;
     while is_ready(window, last, turn, out.len()) {
         let place = turn.place;
-        let heard = hearing::hear(&window[place..], current, sram);
-        let reply = heard.reply;
+        let handled = records::handle(&window[place..], current, sram);
+        let reply = handled.reply;
         current = reply.session;
-        let told = print_heard(heard, turn.number, out, turn.used);
+        let told = print_handled(handled, turn.number, out, turn.used);
         turn = turn_behind(place, told);
     }
     Played {

@@ -45,7 +45,7 @@ formed-few (Item.Frame identifier frame) e =
     leb-true (length frame) 8 (and-eq-true-iff (leb identifier 2047) (leb (length frame) 8) .0 e .1)
 formed-few (Item.Byte byte faulty) e = omega arith
 
--- what `session::take` asks for
+-- what `rules::take` asks for
 pub taken-ready : (session : Session) (sram : List ℕ) (item : Item) → firstDue session sram (wellFormed item) ≡ Due.Nothing
     → takes (session .stage) item ≡ true
     → (rightSize sram ≡ true)

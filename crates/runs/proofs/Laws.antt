@@ -7,7 +7,7 @@ use Rattle.answers.specs.declared.Due.{Due}
 use Rattle.answers.specs.Answers.{firstDue}
 use Rattle.answers.proofs.Laws.{fault-some}
 use Rattle.encoding.specs.Reading.{sessionIn}
-use Rattle.merging.specs.Listing.{itemsOf, listFits, ListAfter, listDue, afterList}
+use Rattle.batch.specs.Listing.{itemsOf, listFits, ListAfter, listDue, afterList}
 use Rattle.calls.proofs.Laws.{due-length}
 
 -- a list that gets 0 has room for its session

@@ -10,7 +10,7 @@ use Rattle.starts.specs.Fresh.{freshIn}
 use Rattle.encoding.specs.Writing.{sessionNumbers}
 use Rattle.encoding.specs.Reading.{sessionIn}
 use Rattle.choices.specs.Numbers.{modeOf}
-use Rattle.merging.specs.Listing.{ListAfter, afterList}
+use Rattle.batch.specs.Listing.{ListAfter, afterList}
 use Rattle.calls.specs.Crossing.{Reply, asReply}
 
 -- what a list leaves: a refused one nothing but its number

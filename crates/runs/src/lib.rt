@@ -18,7 +18,7 @@ pub fn list(
         ≡ listReply (now (session .entry)) (now (sram .entry)) (now (kinds .entry)) (now (identifiers .entry)) (now (counts .entry)) (now (bytes .entry)) (now (answers .entry))
         ⌝ }
 {
-    let reply = merging::run(
+    let reply = batch::run(
         decoding::read_session(session),
         sram,
         kinds,

@@ -1,7 +1,7 @@
 // The lines of text that the program prints (01, "The truck's capture file"). A line is written from its end: each piece goes in
 // front of what stands there already.
 ghost use mathlib.Core.Path.{_≡_};
-ghost use Prim.Native.Nat.{_+_, _*_, _≤_, _<_};
+ghost use Prim.Native.Nat.{_*_, _≤_, _<_};
 ghost use mathlib.Core.List.{[], _∷_, _++_};
 ghost use lib.ListN.{length, take};
 ghost use Rattle.text.specs.Digits.{ascii, decimal, hexDigit, hexOf};

@@ -8,7 +8,7 @@ use denote.Ref.{now}
 use borrow.Author.Needs.{needs}
 use Rattle.capture.specs.Records.{found}
 use Rattle.capture.proofs.Laws.{lent-whole}
-use Rattle.hearing.specs.Hearing.{asHears, hearsOf}
+use Rattle.records.specs.Handling.{asHandles, handlesOf}
 use Rattle.report.specs.declared.Turn.{Turn}
 use Rattle.report.specs.Windows.{Leaves, Goes, keeping}
 use Rattle.report.proofs.play.Statement.{statement}
@@ -39,20 +39,20 @@ loop-holds c =
 is-ready-requires : tie.Need-is-ready-requires Inv-loop μ-loop
 is-ready-requires c κs = search needs
 
-sub-hear : tie.Need-sub-hear Inv-loop μ-loop
-sub-hear c = c .before .before .loop .inv .0 .inside
+sub-handle : tie.Need-sub-handle Inv-loop μ-loop
+sub-handle c = c .before .before .loop .inv .0 .inside
 
-part-hear-start : tie.Need-part-hear-start Inv-loop μ-loop
-part-hear-start c = omega (arith, c .before .before .loop .inv .0 .inside)
+part-handle-start : tie.Need-part-handle-start Inv-loop μ-loop
+part-handle-start c = omega (arith, c .before .before .loop .inv .0 .inside)
 
-part-hear-end : tie.Need-part-hear-end Inv-loop μ-loop
-part-hear-end c = omega (arith, c .before .before .loop .inv .0 .inside)
+part-handle-end : tie.Need-part-handle-end Inv-loop μ-loop
+part-handle-end c = omega (arith, c .before .before .loop .inv .0 .inside)
 
-hear-requires : tie.Need-hear-requires Inv-loop μ-loop
-hear-requires c κs = search needs
+handle-requires : tie.Need-handle-requires Inv-loop μ-loop
+handle-requires c κs = search needs
 
-print-heard-requires : tie.Need-print-heard-requires Inv-loop μ-loop
-print-heard-requires c κs =
+print-handled-requires : tie.Need-print-handled-requires Inv-loop μ-loop
+print-handled-requires c κs =
     let test = c .before .before .before .before .before .before .before .before in
     let a = test .before .before .before .before .before .before .before .args in
     let l = test .before .before .loop in
@@ -60,44 +60,44 @@ print-heard-requires c κs =
     let room = turning-room (now (a .window)) (a .last) kept (now (a .out)) (l .turn) (l .current) (l .sram) (l .out) (l .inv .0) (test .before .is-ready .result) (test .before .is-ready .ensures) (test .if1 .taken) in
     (room .2, room .1)
 
--- what was heard of the bytes from the place on
-heard-at : (c : tie.After-hear Inv-loop μ-loop)
-    → asHears (c .hear .result) (c .hear .last .1 .1 .0)
-    ≡ hearsOf (c .before .before .before .before .before .loop .current) (c .before .before .before .before .before .loop .sram) (found 0 (drop (c .before .before .before .before .before .loop .turn .place) (now (c .before .before .before .before .before .before .before .before .before .before .args .window))))
-heard-at c =
+-- what was handled of the bytes from the place on
+handled-at : (c : tie.After-handle Inv-loop μ-loop)
+    → asHandles (c .handle .result) (c .handle .last .1 .1 .0)
+    ≡ handlesOf (c .before .before .before .before .before .loop .current) (c .before .before .before .before .before .loop .sram) (found 0 (drop (c .before .before .before .before .before .loop .turn .place) (now (c .before .before .before .before .before .before .before .before .before .before .args .window))))
+handled-at c =
     let l = c .before .before .before .before .before .loop in
     let window = now (c .before .before .before .before .before .before .before .before .before .before .args .window) in
-    c .hear .ensures
-    ∙ ap (λ (bytes : List ℕ). hearsOf (l .current) (l .sram) (found 0 bytes)) (lent-whole window (l .turn .place))
+    c .handle .ensures
+    ∙ ap (λ (bytes : List ℕ). handlesOf (l .current) (l .sram) (found 0 bytes)) (lent-whole window (l .turn .place))
 
 short : (c : tie.Start Inv-loop μ-loop) → length (now (c .args .window)) < 0x8000_0000_0000_0000
 short c = omega arith
 
 turn-behind-requires : tie.Need-turn-behind-requires Inv-loop μ-loop
 turn-behind-requires c κs =
-    let told = c .before .before .print-heard in
-    let heard = c .before .before .before .before .before .before .before .before in
-    let start = heard .before .before .before .before .before .before .before .before .before .before in
+    let told = c .before .before .print-handled in
+    let handled = c .before .before .before .before .before .before .before .before in
+    let start = handled .before .before .before .before .before .before .before .before .before .before in
     let a = start .args in
-    let l = heard .before .before .before .before .before .loop in
+    let l = handled .before .before .before .before .before .loop in
     let kept = keeping (a .number) (a .session) (now (a .sram)) in
-    let within = turn-within (now (a .window)) (a .last) kept (now (a .out)) (l .turn) (l .current) (l .sram) (l .out) (l .inv .0) (heard .hear .result) (told .result) (heard .hear .last .1 .1 .0) (told .last .1 .1 .0) (heard-at heard) (told .ensures .0) in
+    let within = turn-within (now (a .window)) (a .last) kept (now (a .out)) (l .turn) (l .current) (l .sram) (l .out) (l .inv .0) (handled .handle .result) (told .result) (handled .handle .last .1 .1 .0) (told .last .1 .1 .0) (handled-at handled) (told .ensures .0) in
     omega (arith, within, short start)
 
 loop-less : tie.Need-loop-less Inv-loop μ-loop
 loop-less c =
     let next = c .turn-behind in
-    let told = c .before .before .before .print-heard in
-    let heard = c .before .before .before .before .before .before .before .before .before in
-    let test = heard .before .before .before in
+    let told = c .before .before .before .print-handled in
+    let handled = c .before .before .before .before .before .before .before .before .before in
+    let test = handled .before .before .before in
     let a = test .before .before .before .before .before .before .before .args in
     let l = test .before .before .loop in
     let kept = keeping (a .number) (a .session) (now (a .sram)) in
-    let sram = heard .hear .last .1 .1 .0 in
+    let sram = handled .handle .last .1 .1 .0 in
     let out = told .last .1 .1 .0 in
-    turning-less (now (a .window)) (a .last) kept (now (a .out)) (l .turn) (l .current) (l .sram) (l .out) (l .inv .0) (next .result) (heard .hear .result .reply .session) sram out
-    (turn-short (now (a .window)) (a .last) kept (now (a .out)) (l .turn) (l .current) (l .sram) (l .out) (l .inv .0) (heard .hear .result) (told .result) sram out (heard-at heard) (told .ensures .0) (told .ensures .1))
-    (turn-told (now (a .window)) (a .last) kept (now (a .out)) (l .turn) (l .current) (l .sram) (l .out) (l .inv .0) (heard .hear .result) (told .result) sram out (heard-at heard) (told .ensures .0) (next .result) (next .ensures))
+    turning-less (now (a .window)) (a .last) kept (now (a .out)) (l .turn) (l .current) (l .sram) (l .out) (l .inv .0) (next .result) (handled .handle .result .reply .session) sram out
+    (turn-short (now (a .window)) (a .last) kept (now (a .out)) (l .turn) (l .current) (l .sram) (l .out) (l .inv .0) (handled .handle .result) (told .result) sram out (handled-at handled) (told .ensures .0) (told .ensures .1))
+    (turn-told (now (a .window)) (a .last) kept (now (a .out)) (l .turn) (l .current) (l .sram) (l .out) (l .inv .0) (handled .handle .result) (told .result) sram out (handled-at handled) (told .ensures .0) (next .result) (next .ensures))
     (test .before .is-ready .result)
     (test .before .is-ready .ensures)
     (test .if1 .taken)
@@ -105,21 +105,21 @@ loop-less c =
 loop-again : tie.Need-loop-again Inv-loop μ-loop
 loop-again c =
     let next = c .turn-behind in
-    let told = c .before .before .before .print-heard in
-    let heard = c .before .before .before .before .before .before .before .before .before in
-    let test = heard .before .before .before in
+    let told = c .before .before .before .print-handled in
+    let handled = c .before .before .before .before .before .before .before .before .before in
+    let test = handled .before .before .before in
     let a = test .before .before .before .before .before .before .before .args in
     let l = test .before .before .loop in
     let kept = keeping (a .number) (a .session) (now (a .sram)) in
-    let sram = heard .hear .last .1 .1 .0 in
+    let sram = handled .handle .last .1 .1 .0 in
     let out = told .last .1 .1 .0 in (
-      turning-on (now (a .window)) (a .last) kept (now (a .out)) (l .turn) (l .current) (l .sram) (l .out) (l .inv .0) (next .result) (heard .hear .result .reply .session) sram out
-          (turn-short (now (a .window)) (a .last) kept (now (a .out)) (l .turn) (l .current) (l .sram) (l .out) (l .inv .0) (heard .hear .result) (told .result) sram out (heard-at heard) (told .ensures .0) (told .ensures .1))
-          (turn-told (now (a .window)) (a .last) kept (now (a .out)) (l .turn) (l .current) (l .sram) (l .out) (l .inv .0) (heard .hear .result) (told .result) sram out (heard-at heard) (told .ensures .0) (next .result) (next .ensures))
+      turning-on (now (a .window)) (a .last) kept (now (a .out)) (l .turn) (l .current) (l .sram) (l .out) (l .inv .0) (next .result) (handled .handle .result .reply .session) sram out
+          (turn-short (now (a .window)) (a .last) kept (now (a .out)) (l .turn) (l .current) (l .sram) (l .out) (l .inv .0) (handled .handle .result) (told .result) sram out (handled-at handled) (told .ensures .0) (told .ensures .1))
+          (turn-told (now (a .window)) (a .last) kept (now (a .out)) (l .turn) (l .current) (l .sram) (l .out) (l .inv .0) (handled .handle .result) (told .result) sram out (handled-at handled) (told .ensures .0) (next .result) (next .ensures))
           (test .before .is-ready .result)
           (test .before .is-ready .ensures)
           (test .if1 .taken),
-      heard .hear .kept .1 .1 .0 ∙ l .inv .1,
+      handled .handle .kept .1 .1 .0 ∙ l .inv .1,
     )
 
 same-length : tie.Need-same-length Inv-loop μ-loop
@@ -149,11 +149,11 @@ play-spec =
     first-turn-requires
     loop-holds
     is-ready-requires
-    sub-hear
-    part-hear-start
-    part-hear-end
-    hear-requires
-    print-heard-requires
+    sub-handle
+    part-handle-start
+    part-handle-end
+    handle-requires
+    print-handled-requires
     turn-behind-requires
     loop-less
     loop-again

@@ -57,23 +57,16 @@ none-due c =
     let due = c .before .before in
     rw (due .before .is-item-formed .ensures) at (sym (due .first-due .ensures) ∙ c .enum-told .given .1)
 
--- the bytes handed in are the item's
-own : (c : tie.After-take-arg)
-    → bytesOf (itemOf (c .before .before .before .before .before .before .before .before .before .before .args .kind) (c .before .before .before .before .before .before .before .before .before .before .args .identifier) (now (c .before .before .before .before .before .before .before .before .before .before .args .bytes)))
-    ≡ now (c .before .before .before .before .before .before .before .before .before .before .args .bytes)
-own c =
-    let a = c .before .before .before .before .before .before .before .before .before .before .args in
-    taken-bytes (a .session .stage) (a .kind) (a .identifier) (now (a .bytes)) (sym (c .before .before .takes-item .ensures) ∙ c .before .if1 .taken)
-
 take-requires : tie.Need-take-requires
 take-requires c κs =
     let test = c .before .before in
     let a = test .before .before .before .before .before .before .before .before .before .args in
     let item = itemOf (a .kind) (a .identifier) (now (a .bytes)) in
+    let takes = sym (test .before .takes-item .ensures) ∙ test .if1 .taken in
     subst
     (λ (l : List ℕ). (rightSize (now (a .sram)) ≡ true) × (length l ≤ 8) × Room (a .session .stage) (a .session .count) (length l))
-    (own (c .before))
-    (taken-ready (a .session) (now (a .sram)) item (none-due (test .before .before)) (sym (test .before .takes-item .ensures) ∙ test .if1 .taken))
+    (taken-bytes (a .session .stage) (a .kind) (a .identifier) (now (a .bytes)) takes)
+    (taken-ready (a .session) (now (a .sram)) item (none-due (test .before .before)) takes)
 
 same-length-2 : tie.Need-same-length-2
 same-length-2 c = search needs
@@ -86,6 +79,7 @@ returns-2 c =
     let told = test .before .before in
     let due = told .before .before in
     let a = due .before .before .before .before .before .args in
+    let takes = sym (test .before .takes-item .ensures) ∙ test .if1 .taken in
     c .before .before .take .ensures
     ∙ rw (
       port .port-of .ensures,
@@ -95,7 +89,7 @@ returns-2 c =
       told .enum-told .given .1,
       ← test .before .takes-item .ensures,
       test .if1 .taken,
-      own (port .before),
+      taken-bytes (a .session .stage) (a .kind) (a .identifier) (now (a .bytes)) takes,
     )
 
 leave-requires-2 : tie.Need-leave-requires-2

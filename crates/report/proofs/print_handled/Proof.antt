@@ -1,0 +1,97 @@
+-- `report::print_handled` meets its contract: a bad record, the end mark, and a record that is answered.
+use borrow.Author.Needs.{needs}
+use native.Mathlib.Omega.{arith}
+use Prim.Native.Nat.{_≤_}
+use mathlib.Core.Path.{ap, _∙_}
+use mathlib.Core.List.{[]}
+use lib.ListN.{length, length-append}
+use denote.Ref.{now}
+use Rattle.answers.specs.Answers.{numberOf}
+use Rattle.records.specs.Handling.{asHandles}
+use Rattle.text.specs.Lines.{recordLine}
+use Rattle.text.specs.Places.{asOutput}
+use Rattle.text.proofs.Laws.{record-length, last-length}
+use Rattle.report.proofs.print_handled.Statement.{statement}
+use Rattle.report.proofs.print_handled.Tie as tie
+use Rattle.report.specs.Steps.{Step, echoed, closing}
+use Rattle.report.specs.Windows.{keeping}
+use Rattle.report.specs.Turns.{printedOf}
+use Rattle.report.proofs.Laws.{told-bad, told-end, told-record, last-behind}
+
+record-line-requires : tie.Need-record-line-requires
+record-line-requires c κs = search needs
+
+print-last-requires : tie.Need-print-last-requires
+print-last-requires c κs = search needs
+
+same-length : tie.Need-same-length
+same-length c = search needs
+
+returns : tie.Need-returns
+returns c =
+    let line = c .before .before .before .before .before .before in
+    let test = line .before .before in
+    let start = test .before .before .before .before .before .before in
+    let a = start .args in
+    let session = a .handled .reply .session in
+    let kept = keeping (a .number) session [] in
+    let text = recordLine (a .number) (a .handled .number) [] in
+    let long : length text ≤ 59 = record-length (a .number) (a .handled .number) [] (omega arith) in
+    let short = last-length (session .stage) in
+    let bad = told-bad (a .number) (asHandles (a .handled) []) (test .if1 .taken) in (
+      last-behind (a .number) (session .stage) (c .before .before .print-last .result) (c .before .before .print-last .last .0) (now (a .out)) (a .used) text
+          (asOutput (line .record-line .last .0) (line .record-line .result)) (omega (arith, long, short, start .pre .1)) (line .record-line .ensures)
+          (c .before .before .print-last .ensures)
+          ∙ ap (λ (s : Step). printedOf s (asOutput (now (a .out)) (a .used))) bad,
+      omega (arith, long, short, length-append text (closing kept), ap (λ (s : Step). length (s .text)) bad),
+    )
+
+print-last-requires-2 : tie.Need-print-last-requires-2
+print-last-requires-2 c κs = search needs
+
+same-length-2 : tie.Need-same-length-2
+same-length-2 c = search needs
+
+returns-2 : tie.Need-returns-2
+returns-2 c =
+    let test = c .before .before .before .before in
+    let start = test .before .before .before .before .before .before .before .before in
+    let a = start .args in
+    let session = a .handled .reply .session in
+    let end = told-end (a .number) (asHandles (a .handled) []) (test .before .before .if1 .left) (test .if2 .taken) in (
+      c .before .before .print-last2 .ensures ∙ ap (λ (s : Step). printedOf s (asOutput (now (a .out)) (a .used))) end,
+      omega (arith, last-length (session .stage), ap (λ (s : Step). length (s .text)) end),
+    )
+
+print-record-requires : tie.Need-print-record-requires
+print-record-requires c κs = search needs
+
+same-length-3 : tie.Need-same-length-3
+same-length-3 c = search needs
+
+returns-3 : tie.Need-returns-3
+returns-3 c =
+    let print = c .before .before in
+    let test = print .before .before in
+    let start = test .before .before .before .before .before .before .before .before in
+    let a = start .args in
+    let reply = a .handled .reply in
+    let on = told-record (a .number) (asHandles (a .handled) []) (test .before .before .if1 .left) (test .if2 .left) in (
+      print .print-record .ensures .0 ∙ ap (λ (s : Step). printedOf s (asOutput (now (a .out)) (a .used))) on,
+      omega (arith, record-length (a .number) (numberOf (reply .answer .outcome)) (echoed (reply .answer .echo)) (print .print-record .ensures .1), ap (λ (s : Step). length (s .text)) on),
+    )
+
+pub print-handled-spec : {M : Type 1} → statement M
+print-handled-spec =
+    tie.close
+    (tie.spec
+    record-line-requires
+    print-last-requires
+    same-length
+    returns
+    print-last-requires-2
+    same-length-2
+    returns-2
+    print-record-requires
+    same-length-3
+    returns-3)
