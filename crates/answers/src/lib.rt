@@ -50,6 +50,8 @@ pub struct Reply {
     pub session: Session,
 }
 
+const NOTHING: [u8; 8] = [0; 8];
+
 // The number of a refusal.
 pub fn refusal_number(refusal: Refusal) -> u8
     ensures { λ r. ⌜ r ≡ refusalNumber refusal ⌝ }
@@ -107,8 +109,6 @@ fn echo_under(identifier: u32, bytes: &[u8]) -> Echo
     }
 }
 
-const NOTHING: [u8; 8] = [0; 8];
-
 // No echo.
 fn no_echo() -> Echo
     ensures { λ r. ⌜ r ≡ noEcho ⌝ }
@@ -135,7 +135,7 @@ pub fn echo_of(session: Session, port: Port, bytes: &[u8]) -> Echo
     }
 }
 
-// No echo, and nothing changed.
+// No echo, and the session as it is handed in.
 pub fn leave(session: Session, outcome: Outcome) -> Reply
     ensures { λ r. ⌜ r ≡ left outcome session ⌝ }
 {

@@ -1,5 +1,5 @@
 -- What a sound load says of its counts.
-use Prim.Native.Nat.{ℕ, _≤_}
+use Prim.Native.Nat.{_≤_}
 use mathlib.Core.Path.{_≡_}
 use mathlib.Core.Bool.{true, _&&_, and-eq-true-iff}
 use borrow.Author.Tests.{leb-true}

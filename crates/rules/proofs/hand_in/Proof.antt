@@ -7,7 +7,7 @@ use mathlib.Core.Bool.{true}
 use lib.ListN.{length}
 use denote.Ref.{now}
 use Rattle.sram.specs.Region.{rightSize}
-use Rattle.items.specs.Items.{itemOf, wellFormed, bytesOf}
+use Rattle.items.specs.Items.{itemOf, wellFormed}
 use Rattle.rules.proofs.hand_in.Statement.{statement}
 use Rattle.rules.proofs.hand_in.Tie as tie
 use Rattle.answers.specs.declared.Due.{Due}
