@@ -50,8 +50,6 @@ pub struct Reply {
     pub session: Session,
 }
 
-const NOTHING: [u8; 8] = [0; 8];
-
 // The number of a refusal.
 pub fn refusal_number(refusal: Refusal) -> u8
     ensures { λ r. ⌜ r ≡ refusalNumber refusal ⌝ }
@@ -116,7 +114,7 @@ fn no_echo() -> Echo
     Echo {
         identifier: 0,
         length: 0,
-        bytes: NOTHING,
+        bytes: [0; 8],
     }
 }
 

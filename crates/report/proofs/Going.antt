@@ -13,8 +13,8 @@ use Rattle.text.specs.Lines.{recordLine}
 use Rattle.capture.specs.Records.{Read, found}
 use Rattle.capture.proofs.Laws.{found-next}
 use Rattle.capture.proofs.Window.{window as fourteen}
-use Rattle.records.specs.Handling.{says}
-use Rattle.report.specs.Steps.{Carried, Step, recorded, closing, ends, stepOf, stepFrom, textIn, textFrom}
+use Rattle.records.specs.Handling.{handlesOf}
+use Rattle.report.specs.Steps.{Carried, Step, recorded, closing, ends, stepOf, stepFrom, textIn, textFrom, keptAfter, stepAfter}
 use Rattle.report.specs.Windows.{Playing, atFirst, onward, ready, plays, playedIn, leftBy, Goes}
 
 -- a step takes no more than there is, and at least 4 bytes where the text goes on
@@ -23,23 +23,26 @@ module _ (kept : Carried) (read : Read) (most : ℕ) (within : read .number ≡ 
   Inside step = (step .taken ≤ most) × (step .over ≡ false → 4 ≤ step .taken)
 
   by-tests
-      : (call : After) (text line : List ℕ) (n k : Bool)
+      : (next : Carried) (call : After) (text line : List ℕ) (n k : Bool)
       → eqb (read .number) 0 ≡ n
       → eqb (read .kind) 0 ≡ k
-      → Inside (cond n (cond k (ends kept text) (recorded kept (read .next) call)) (ends kept line))
-  by-tests call text line true false en ek =
+      → Inside (cond n (cond k (ends next text) (recorded next (read .next) call)) (ends next line))
+  by-tests next call text line true false en ek =
       let room = within (eqb-true (read .number) 0 en) (eqb-false (read .kind) 0 ek) in
       (room .1, λ e. room .0)
-  by-tests call text line true true en ek = (omega arith, λ e. absurd (false≢true (sym e)))
-  by-tests call text line false k en ek = (omega arith, λ e. absurd (false≢true (sym e)))
+  by-tests next call text line true true en ek = (omega arith, λ e. absurd (false≢true (sym e)))
+  by-tests next call text line false k en ek = (omega arith, λ e. absurd (false≢true (sym e)))
 
   step-of-within : Inside (stepOf kept read)
-  unfolding stepOf
+  unfolding stepOf stepAfter handlesOf
   step-of-within =
+      let handles = handlesOf (kept .session) (kept .sram) read in
+      let next = keptAfter (kept .number) handles in
       by-tests
-      (says (kept .session) (kept .sram) (read .kind) (read .body))
-      (closing kept)
-      (recordLine (kept .number) (read .number) [] ++ closing kept)
+      next
+      (handles .call)
+      (closing next)
+      (recordLine (kept .number) (read .number) [] ++ closing next)
       (eqb (read .number) 0)
       (eqb (read .kind) 0)
       refl

@@ -2,23 +2,21 @@
 use Prim.Native.Nat.{ℕ, _+_, _≤_}
 use mathlib.Core.Path.{_≡_, refl, ap, _∙_}
 use mathlib.Core.List.{List, [], _++_}
-use mathlib.Core.Bool.{Bool, true, false, cond, not, _&&_}
+use mathlib.Core.Bool.{Bool, true, false, cond}
 use borrow.Author.Tests.{eq-eqb, ne-eqb}
 use lib.Dec.{eqb}
 use lib.ListN.{length}
 use Rattle.stages.specs.declared.Stage.{Stage}
-use Rattle.answers.specs.declared.Outcome.{Outcome}
-use Rattle.answers.specs.Answers.{After, unchanged}
 use Rattle.capture.specs.Records.{Read}
 use Rattle.text.specs.Lines.{recordLine, lastLine}
 use Rattle.text.specs.Places.{Output, asOutput, appended}
 use Rattle.text.proofs.Laws.{appended-twice}
 use Rattle.records.specs.declared.Handled.{Handled}
-use Rattle.records.specs.Handling.{says, Handles, asHandles, handlesOf}
+use Rattle.records.specs.Handling.{Handles, asHandles, handlesOf}
 use Rattle.report.specs.declared.Turn.{Turn}
-use Rattle.report.specs.Steps.{Carried, Step, recorded, closing, ends, stepOf}
-use Rattle.report.specs.Windows.{Leaves, asLeaves, keeping}
-use Rattle.report.specs.Turns.{keptAfter, stepAfter, Printed, asPrinted, printedAt, printedOf, turnBehind}
+use Rattle.report.specs.Steps.{Carried, Step, recorded, closing, ends, stepOf, keptAfter, stepAfter}
+use Rattle.report.specs.Windows.{Leaves, asLeaves}
+use Rattle.report.specs.Turns.{Printed, asPrinted, printedAt, printedOf, turnBehind}
 
 -- The step of a record that was handled, case by case.
 module _ (number : ℕ) (handles : Handles) where
@@ -34,29 +32,6 @@ module _ (number : ℕ) (handles : Handles) where
   pub told-record : handles .number ≡ 0 → (handles .kind ≡ 0 → ⊥) → recorded (keptAfter number handles) (handles .taken) (handles .call) ≡ stepAfter number handles
   unfolding stepAfter
   told-record e h = rw (eq-eqb (handles .number) 0 e, ne-eqb (handles .kind) 0 h)
-
--- the two halves together are the step
-pub told-handled : (kept : Carried) (read : Read) → stepAfter (kept .number) (handlesOf (kept .session) (kept .sram) read) ≡ stepOf kept read
-unfolding stepAfter handlesOf stepOf
-told-handled kept read =
-    by-tests
-    (says (kept .session) (kept .sram) (read .kind) (read .body))
-    (eqb (read .number) 0)
-    (eqb (read .kind) 0)
-  where
-    by-tests
-        : (call : After) (n k : Bool)
-        → (let handled : After = cond (n && not k) call (unchanged Outcome.Ignored (kept .session) (kept .sram)) in
-        let after : Carried = keeping (kept .number) (handled .session) (handled .sram) in
-        cond n
-        (cond k (ends after (closing after)) (recorded after (read .next) handled))
-        (ends after (recordLine (kept .number) (read .number) [] ++ closing after)))
-        ≡ cond n
-        (cond k (ends kept (closing kept)) (recorded kept (read .next) call))
-        (ends kept (recordLine (kept .number) (read .number) [] ++ closing kept))
-    by-tests call true true = refl
-    by-tests call true false = refl
-    by-tests call false k = refl
 
 -- the last line behind another line
 pub last-behind
@@ -112,7 +87,8 @@ module _ (number : ℕ) (handled : Handled) (sram : List ℕ) where
 -- the same of what `records::handle` returned
 module _ (kept : Carried) (read : Read) (handled : Handled) (sram : List ℕ) (handled-is : asHandles handled sram ≡ handlesOf (kept .session) (kept .sram) read) where
   step-is : stepAfter (kept .number) (asHandles handled sram) ≡ stepOf kept read
-  step-is = ap (stepAfter (kept .number)) handled-is ∙ told-handled kept read
+  unfolding stepOf
+  step-is = ap (stepAfter (kept .number)) handled-is
 
   pub step-text : stepAfter (kept .number) (asHandles handled []) .text ≡ stepOf kept read .text
   step-text = told-same (kept .number) handled sram .1 ∙ ap (λ (s : Step). s .text) step-is

@@ -15,9 +15,9 @@ use Rattle.capture.specs.Records.{found}
 use Rattle.records.specs.declared.Handled.{Handled}
 use Rattle.records.specs.Handling.{asHandles, handlesOf}
 use Rattle.report.specs.declared.Turn.{Turn}
-use Rattle.report.specs.Steps.{Carried, Step, stepFrom}
-use Rattle.report.specs.Windows.{Playing, startOf, onward, readyIn, ready, plays, playedIn, Leaves, asLeaves, leftBy, keeping}
-use Rattle.report.specs.Turns.{stepAfter, asPrinted, printedAt, printedOf, turnBehind}
+use Rattle.report.specs.Steps.{Carried, Step, stepFrom, keeping, stepAfter}
+use Rattle.report.specs.Windows.{Playing, startOf, onward, readyIn, ready, plays, playedIn, Leaves, asLeaves, leftBy}
+use Rattle.report.specs.Turns.{asPrinted, printedAt, printedOf, turnBehind}
 use Rattle.report.proofs.Laws.{leavesWith, stepLeaves, movedOn, step-text, step-leaves}
 use Rattle.report.proofs.Going.{step-within}
 

@@ -12,13 +12,16 @@ use Rattle.answers.specs.declared.Echo.{Echo}
 use Rattle.answers.specs.Answers.{After}
 use Rattle.capture.specs.Records.{Read, found}
 use Rattle.text.specs.Lines.{recordLine, lastLine}
-use Rattle.records.specs.Handling.{says}
+use Rattle.records.specs.Handling.{Handles, handlesOf}
 
 -- what the program keeps from record to record: the number of the next record, the session and SRAM
 pub record Carried : Type 0 where
   pub number : ℕ
   pub session : Session
   pub sram : List ℕ
+
+abbrev pub keeping : ℕ → Session → List ℕ → Carried
+keeping number session sram = record { number = number; session = session; sram = sram }
 
 -- "with zeroed SRAM and the public password"; "its number from 1"
 abbrev pub beginning : Carried
@@ -51,14 +54,22 @@ closing kept = lastLine (kept .session .stage)
 abbrev pub ends : Carried → List ℕ → Step
 ends kept text = record { text = text; taken = 0; over = true; kept = kept }
 
+-- what is kept after a record that was handled
+abbrev pub keptAfter : ℕ → Handles → Carried
+keptAfter number handles = keeping number (handles .call .session) (handles .call .sram)
+
 -- "A 10 prints its line with "-" and ends the reading"; at the end mark there is the last line alone
+unfoldable pub stepAfter : ℕ → Handles → Step
+stepAfter number handles =
+    cond (eqb (handles .number) 0)
+    (cond (eqb (handles .kind) 0)
+    (ends (keptAfter number handles) (closing (keptAfter number handles)))
+    (recorded (keptAfter number handles) (handles .taken) (handles .call)))
+    (ends (keptAfter number handles) (recordLine number (handles .number) [] ++ closing (keptAfter number handles)))
+
+-- a record as the reader finds it
 unfoldable pub stepOf : Carried → Read → Step
-stepOf kept read =
-    cond (eqb (read .number) 0)
-    (cond (eqb (read .kind) 0)
-    (ends kept (closing kept))
-    (recorded kept (read .next) (says (kept .session) (kept .sram) (read .kind) (read .body))))
-    (ends kept (recordLine (kept .number) (read .number) [] ++ closing kept))
+stepOf kept read = stepAfter (kept .number) (handlesOf (kept .session) (kept .sram) read)
 
 -- with the capture's bytes from the record on
 abbrev pub stepFrom : Carried → List ℕ → Step

@@ -6,9 +6,8 @@ use mathlib.Core.Bool.{Bool, true, false, cond, not, _&&_, _||_}
 use lib.ListN.{length, take, drop}
 use lib.Dec.{leb, ltb}
 use Rattle.filling.specs.Write.{over}
-use Rattle.stages.specs.declared.Session.{Session}
 use Rattle.report.specs.declared.Played.{Played}
-use Rattle.report.specs.Steps.{Carried, stepFrom, textFrom}
+use Rattle.report.specs.Steps.{Carried, keeping, stepFrom, textFrom}
 
 -- Where a call is: the next place in the window, the text so far, whether it has ended, and what is kept
 pub record Playing : Type 0 where
@@ -81,9 +80,6 @@ leftBy p out =
       sram = p .kept .sram;
       out = over (p .text) out;
     }
-
-abbrev pub keeping : ℕ → Session → List ℕ → Carried
-keeping number session sram = record { number = number; session = session; sram = sram }
 
 -- Whatever follows the window, which is nothing after the last one, the text for the capture is what this call wrote, and then the
 -- text from the next place on, with what is kept by then.

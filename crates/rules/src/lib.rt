@@ -28,8 +28,6 @@ pub struct Moved {
     pub session: Session,
 }
 
-const NOTHING: [u8; 8] = [0; 8];
-
 // A stage that holds no password or header bytes.
 fn enter(selected: [u8; 8], stage: Stage, outcome: Outcome) -> Moved
     ensures { λ r. ⌜ r ≡ enters selected stage outcome ⌝ }
@@ -37,7 +35,7 @@ fn enter(selected: [u8; 8], stage: Stage, outcome: Outcome) -> Moved
     let next = Session {
         selected: selected,
         stage: stage,
-        held: NOTHING,
+        held: [0; 8],
         count: 0,
     };
     Moved {

@@ -13,8 +13,6 @@ pub struct Start {
     pub session: Session,
 }
 
-const NOTHING: [u8; 8] = [0; 8];
-
 // The waiting session with a password selected.
 pub fn waiting(selected: [u8; 8]) -> Session
     ensures { λ r. ⌜ r ≡ freshSession selected ⌝ }
@@ -22,7 +20,7 @@ pub fn waiting(selected: [u8; 8]) -> Session
     Session {
         selected: selected,
         stage: Stage::Waiting,
-        held: NOTHING,
+        held: [0; 8],
         count: 0,
     }
 }
@@ -33,7 +31,7 @@ fn no_session() -> Start
 {
     Start {
         serial: false,
-        session: waiting(NOTHING),
+        session: waiting([0; 8]),
     }
 }
 

@@ -9,8 +9,9 @@ use borrow.Author.Needs.{needs}
 use Rattle.capture.specs.Records.{found}
 use Rattle.capture.proofs.Laws.{lent-whole}
 use Rattle.records.specs.Handling.{asHandles, handlesOf}
+use Rattle.report.specs.Steps.{keeping}
 use Rattle.report.specs.declared.Turn.{Turn}
-use Rattle.report.specs.Windows.{Leaves, Goes, keeping}
+use Rattle.report.specs.Windows.{Leaves, Goes}
 use Rattle.report.proofs.play.Statement.{statement}
 use Rattle.report.proofs.play.Tie as tie
 use Rattle.report.proofs.Going.{windows-join}
