@@ -1,7 +1,5 @@
 // What a record of a capture does (01, "The truck's capture file"): it is read and handed to the session.
 ghost use mathlib.Core.Path.{_≡_};
-ghost use Rattle.controls.specs.Table.{publicPassword};
-ghost use Rattle.starts.specs.Fresh.{freshSession};
 ghost use Rattle.answers.specs.Answers.{asAfter};
 ghost use Rattle.capture.specs.Records.{found};
 ghost use Rattle.records.specs.Handling.{leading, says, asHandles, handlesOf};
@@ -16,13 +14,6 @@ pub struct Handled {
     pub kind: u8,
     pub taken: usize,
     pub reply: Reply,
-}
-
-// The session that a reset gives, and with which a capture begins: waiting, with the public password.
-pub fn opening() -> Session
-    ensures { λ r. ⌜ r ≡ freshSession publicPassword ⌝ }
-{
-    starts::waiting(controls::PUBLIC)
 }
 
 // How many bytes of a body stand before an item's own.
@@ -40,7 +31,7 @@ fn answer_record(session: Session, sram: &mut [u8], kind: u8, body: &[u8]) -> Re
     ensures { λ r. ⌜ asAfter r (now (sram .exit)) ≡ says session (now (sram .entry)) kind (now (body .entry)) ⌝ }
 {
     if kind == 4 {
-        return answers::leave(opening(), Outcome::Taken);
+        return answers::leave(openings::opening_session(), Outcome::Taken);
     }
     let identifier = octets::half(body, 0);
     let from = octets::least(leading_bytes(kind), body.len());

@@ -15,8 +15,9 @@ use Rattle.capture.specs.Records.{found}
 use Rattle.records.specs.declared.Handled.{Handled}
 use Rattle.records.specs.Handling.{asHandles, handlesOf}
 use Rattle.report.specs.declared.Turn.{Turn}
-use Rattle.report.specs.Steps.{Carried, Step, stepFrom, keeping, stepAfter}
-use Rattle.report.specs.Windows.{Playing, startOf, onward, readyIn, ready, plays, playedIn, Leaves, asLeaves, leftBy}
+use Rattle.openings.specs.Opening.{Carried, keeping}
+use Rattle.report.specs.Steps.{Step, stepFrom, stepAfter}
+use Rattle.report.specs.Windows.{Playing, onward, readyIn, ready, plays, playedIn, Leaves, asLeaves, leftBy}
 use Rattle.report.specs.Turns.{asPrinted, printedAt, printedOf, turnBehind}
 use Rattle.report.proofs.Laws.{leavesWith, stepLeaves, movedOn, step-text, step-leaves}
 use Rattle.report.proofs.Going.{step-within}
@@ -46,7 +47,7 @@ abbrev pub leftIn : List ℕ → Turn → ℕ
 leftIn window turn = cond (turn .ended) 0 (suc (length window - turn .place))
 
 pub turning-first : (window : List ℕ) (last : Bool) (kept : Carried) (out : List ℕ)
-    → Turning window last kept out (startOf kept .turn) (kept .session) (kept .sram) out
+    → Turning window last kept out record { place = 0; used = 0; ended = false; number = kept .number } (kept .session) (kept .sram) out
 unfolding playedIn
 turning-first window last kept out =
     record {

@@ -2,30 +2,14 @@
 use Prim.Native.Nat.{ℕ, zero, suc, _+_}
 use mathlib.Core.List.{List, [], _++_}
 use mathlib.Core.Bool.{Bool, true, false, cond}
-use lib.ListN.{length, take, drop, replicate}
+use lib.ListN.{length, take, drop}
 use lib.Dec.{eqb}
-use Rattle.controls.specs.Table.{publicPassword}
-use Rattle.sram.specs.Region.{size}
-use Rattle.stages.specs.declared.Session.{Session}
-use Rattle.starts.specs.Fresh.{freshSession}
 use Rattle.answers.specs.declared.Echo.{Echo}
 use Rattle.answers.specs.Answers.{After}
 use Rattle.capture.specs.Records.{Read, found}
 use Rattle.text.specs.Lines.{recordLine, lastLine}
+use Rattle.openings.specs.Opening.{Carried, keeping}
 use Rattle.records.specs.Handling.{Handles, handlesOf}
-
--- what the program keeps from record to record: the number of the next record, the session and SRAM
-pub record Carried : Type 0 where
-  pub number : ℕ
-  pub session : Session
-  pub sram : List ℕ
-
-abbrev pub keeping : ℕ → Session → List ℕ → Carried
-keeping number session sram = record { number = number; session = session; sram = sram }
-
--- "with zeroed SRAM and the public password"; "its number from 1"
-abbrev pub beginning : Carried
-beginning = record { number = 1; session = freshSession publicPassword; sram = replicate size 0 }
 
 -- "the echoed data"
 abbrev pub echoed : Echo → List ℕ

@@ -6,8 +6,9 @@ use mathlib.Core.Bool.{Bool, true, false, cond, not, _&&_, _||_}
 use lib.ListN.{length, take, drop}
 use lib.Dec.{leb, ltb}
 use Rattle.filling.specs.Write.{over}
+use Rattle.openings.specs.Opening.{Carried, keeping}
 use Rattle.report.specs.declared.Played.{Played}
-use Rattle.report.specs.Steps.{Carried, keeping, stepFrom, textFrom}
+use Rattle.report.specs.Steps.{stepFrom, textFrom}
 
 -- Where a call is: the next place in the window, the text so far, whether it has ended, and what is kept
 pub record Playing : Type 0 where
@@ -17,13 +18,6 @@ pub record Playing : Type 0 where
   pub kept : Carried
 
 -- as a call has it before the first record
-abbrev pub startOf : Carried → Played
-startOf kept =
-    record {
-      turn = record { place = 0; used = 0; ended = false; number = kept .number };
-      session = kept .session;
-    }
-
 abbrev pub atFirst : Carried → Playing
 atFirst kept = record { place = 0; text = []; ended = false; kept = kept }
 

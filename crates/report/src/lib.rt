@@ -7,9 +7,10 @@ ghost use lib.ListN.{length};
 ghost use Rattle.answers.specs.Answers.{numberOf};
 ghost use Rattle.text.specs.Lines.{recordLine, lastLine};
 ghost use Rattle.text.specs.Places.{asOutput, appended};
+ghost use Rattle.openings.specs.Opening.{keeping};
 ghost use Rattle.records.specs.Handling.{asHandles};
-ghost use Rattle.report.specs.Steps.{beginning, echoed, keeping, stepAfter};
-ghost use Rattle.report.specs.Windows.{startOf, readyIn, playedIn, asLeaves, leftBy, Goes};
+ghost use Rattle.report.specs.Steps.{echoed, stepAfter};
+ghost use Rattle.report.specs.Windows.{readyIn, playedIn, asLeaves, leftBy, Goes};
 ghost use Rattle.report.specs.Turns.{asPrinted, printedAt, printedOf, turnBehind};
 use answers::Answer;
 use records::Handled;
@@ -41,23 +42,6 @@ fn first_turn(number: u64) -> Turn
         ended: false,
         number: number,
     }
-}
-
-// What a capture begins with: record number 1 and the session that a reset gives.
-pub fn begin() -> Played
-    ensures { λ r. ⌜ r ≡ startOf beginning ⌝ }
-{
-    Played {
-        turn: first_turn(1),
-        session: records::opening(),
-    }
-}
-
-// And zeroed SRAM.
-pub fn zeroed_sram() -> [u8; 65536]
-    ensures { λ r. ⌜ r ≡ beginning .sram ⌝ }
-{
-    [0; 65536]
 }
 
 // The last line.
