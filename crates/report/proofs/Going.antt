@@ -90,7 +90,7 @@ text-step kept bytes =
 
 -- A window, what follows it, and the text from a state of a call on.
 module _ (window : List ℕ) (last : Bool) (room : ℕ) (rest : List ℕ) (none : last ≡ true → rest ≡ []) where
-  abbrev Whole : Playing → List ℕ
+  abbrev pub Whole : Playing → List ℕ
   Whole p = p .text ++ cond (p .ended) [] (textFrom (p .kept) (drop (p .place) window ++ rest))
 
   -- a record that can be read is the same with what follows the window
@@ -142,13 +142,17 @@ module _ (window : List ℕ) (last : Bool) (room : ℕ) (rest : List ℕ) (none 
       by-ready true e h = h e
       by-ready false e h = refl
 
+  -- the text for the window with what follows it, by what a call leaves
+  pub played-whole : (kept : Carried) → textFrom kept (window ++ rest) ≡ Whole (playedIn window last room kept)
+  unfolding playedIn
+  played-whole kept = plays-whole (suc (length window)) (atFirst kept)
+
 -- the claim of a call, of what its equation says that it leaves
 pub windows-join : (window : List ℕ) (last : Bool) (room : ℕ) (kept : Carried) (out : List ℕ)
     → Goes window last kept (leftBy (playedIn window last room kept) out)
-unfolding playedIn
 windows-join window last room kept out rest none =
-    let p = plays (suc (length window)) window last room (atFirst kept) in
-    plays-whole window last room rest none (suc (length window)) (atFirst kept)
+    let p = playedIn window last room kept in
+    played-whole window last room rest none kept
     ∙ ap
     (λ (l : List ℕ). l ++ cond (p .ended) [] (textFrom (p .kept) (drop (p .place) window ++ rest)))
     (sym (take-append-seam (p .text) (drop (length (p .text)) out)))
