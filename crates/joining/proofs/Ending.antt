@@ -9,7 +9,7 @@ use lib.Dec.{eqb}
 use lib.ListN.{length, drop, replicate, length-append, length-drop}
 use Rattle.capture.specs.Records.{found}
 use Rattle.records.specs.Handling.{handlesOf}
-use Rattle.openings.specs.Opening.{Carried}
+use Rattle.beginnings.specs.Beginning.{Carried}
 use Rattle.report.specs.Steps.{Step, stepOf, stepFrom, stepAfter}
 use Rattle.report.specs.Windows.{Playing, atFirst, onward, ready, plays, playedIn}
 use Rattle.report.proofs.Going.{step-within}

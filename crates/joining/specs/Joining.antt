@@ -4,7 +4,7 @@ use mathlib.Core.Path.{_≡_}
 use mathlib.Core.List.{List, [], _∷_, _++_}
 use mathlib.Core.Bool.{Bool, true, false, cond}
 use lib.ListN.{length, drop, replicate}
-use Rattle.openings.specs.Opening.{Carried, beginning}
+use Rattle.beginnings.specs.Beginning.{Carried, beginning}
 use Rattle.report.specs.Steps.{textFrom}
 use Rattle.report.specs.Windows.{Playing, playedIn}
 

@@ -6,7 +6,7 @@ use lib.ListN.{drop}
 use lib.Dec.{eqb}
 use Rattle.octets.specs.Read.{halfAt}
 use Rattle.stages.specs.declared.Session.{Session}
-use Rattle.openings.specs.Opening.{opening}
+use Rattle.beginnings.specs.Beginning.{resetSession}
 use Rattle.items.specs.Items.{Item, itemOf}
 use Rattle.answers.specs.declared.Outcome.{Outcome}
 use Rattle.answers.specs.Answers.{After, asAfter, unchanged}
@@ -23,7 +23,7 @@ itemIn kind body = itemOf kind (halfAt body 0) (drop (leading kind) body)
 
 -- "A reset is a new boot choice; SRAM keeps its bytes"; "Reset prints 0 and "-""
 abbrev pub resets : List ℕ → After
-resets sram = unchanged Outcome.Taken opening sram
+resets sram = unchanged Outcome.Taken resetSession sram
 
 -- what a record does: its number and its answer, and the session and SRAM after it
 unfoldable pub says : Session → List ℕ → ℕ → List ℕ → After

@@ -31,7 +31,7 @@ fn answer_record(session: Session, sram: &mut [u8], kind: u8, body: &[u8]) -> Re
     ensures { λ r. ⌜ asAfter r (now (sram .exit)) ≡ says session (now (sram .entry)) kind (now (body .entry)) ⌝ }
 {
     if kind == 4 {
-        return answers::leave(openings::opening_session(), Outcome::Taken);
+        return answers::leave(beginnings::reset_session(), Outcome::Taken);
     }
     let identifier = octets::half(body, 0);
     let from = octets::least(leading_bytes(kind), body.len());

@@ -125,7 +125,7 @@ fn play_on(window: &mut [u8], sram: &mut [u8], out: &mut [u8], run: Run) -> Run 
 
 // Plays window after window until the text has ended.
 fn play_all(window: &mut [u8], sram: &mut [u8], out: &mut [u8]) {
-    let first = openings::begin();
+    let first = beginnings::begin();
     let session = first.session;
     let mut run = Run {
         filled: 0,
@@ -152,7 +152,7 @@ fn main() {
         );
     }
     let mut window = [0u8; 8192];
-    let mut sram = openings::zeroed_sram();
+    let mut sram = beginnings::zeroed_sram();
     let mut out = [0u8; 65536];
     play_all(&mut window[..], &mut sram[..], &mut out[..]);
 }

@@ -14,7 +14,7 @@ use Rattle.capture.specs.Records.{Read, found}
 use Rattle.capture.proofs.Laws.{found-next}
 use Rattle.capture.proofs.Window.{window as fourteen}
 use Rattle.records.specs.Handling.{handlesOf}
-use Rattle.openings.specs.Opening.{Carried}
+use Rattle.beginnings.specs.Beginning.{Carried}
 use Rattle.report.specs.Steps.{Step, recorded, closing, ends, stepOf, stepFrom, textIn, textFrom, keptAfter, stepAfter}
 use Rattle.report.specs.Windows.{Playing, atFirst, onward, ready, plays, playedIn, leftBy, Goes}
 

@@ -14,7 +14,7 @@ use Rattle.text.proofs.Laws.{appended-twice}
 use Rattle.records.specs.declared.Handled.{Handled}
 use Rattle.records.specs.Handling.{Handles, asHandles, handlesOf}
 use Rattle.report.specs.declared.Turn.{Turn}
-use Rattle.openings.specs.Opening.{Carried}
+use Rattle.beginnings.specs.Beginning.{Carried}
 use Rattle.report.specs.Steps.{Step, recorded, closing, ends, stepOf, keptAfter, stepAfter}
 use Rattle.report.specs.Windows.{Leaves, asLeaves}
 use Rattle.report.specs.Turns.{Printed, asPrinted, printedAt, printedOf, turnBehind}

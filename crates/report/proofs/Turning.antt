@@ -15,7 +15,7 @@ use Rattle.capture.specs.Records.{found}
 use Rattle.records.specs.declared.Handled.{Handled}
 use Rattle.records.specs.Handling.{asHandles, handlesOf}
 use Rattle.report.specs.declared.Turn.{Turn}
-use Rattle.openings.specs.Opening.{Carried, keeping}
+use Rattle.beginnings.specs.Beginning.{Carried, keeping}
 use Rattle.report.specs.Steps.{Step, stepFrom, stepAfter}
 use Rattle.report.specs.Windows.{Playing, onward, readyIn, ready, plays, playedIn, Leaves, asLeaves, leftBy}
 use Rattle.report.specs.Turns.{asPrinted, printedAt, printedOf, turnBehind}

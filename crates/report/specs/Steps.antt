@@ -8,7 +8,7 @@ use Rattle.answers.specs.declared.Echo.{Echo}
 use Rattle.answers.specs.Answers.{After}
 use Rattle.capture.specs.Records.{Read, found}
 use Rattle.text.specs.Lines.{recordLine, lastLine}
-use Rattle.openings.specs.Opening.{Carried, keeping}
+use Rattle.beginnings.specs.Beginning.{Carried, keeping}
 use Rattle.records.specs.Handling.{Handles, handlesOf}
 
 -- "the echoed data"

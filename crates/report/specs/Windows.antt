@@ -6,7 +6,7 @@ use mathlib.Core.Bool.{Bool, true, false, cond, not, _&&_, _||_}
 use lib.ListN.{length, take, drop}
 use lib.Dec.{leb, ltb}
 use Rattle.filling.specs.Write.{over}
-use Rattle.openings.specs.Opening.{Carried, keeping}
+use Rattle.beginnings.specs.Beginning.{Carried, keeping}
 use Rattle.report.specs.declared.Played.{Played}
 use Rattle.report.specs.Steps.{stepFrom, textFrom}
 

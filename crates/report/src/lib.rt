@@ -7,7 +7,7 @@ ghost use lib.ListN.{length};
 ghost use Rattle.answers.specs.Answers.{numberOf};
 ghost use Rattle.text.specs.Lines.{recordLine, lastLine};
 ghost use Rattle.text.specs.Places.{asOutput, appended};
-ghost use Rattle.openings.specs.Opening.{keeping};
+ghost use Rattle.beginnings.specs.Beginning.{keeping};
 ghost use Rattle.records.specs.Handling.{asHandles};
 ghost use Rattle.report.specs.Steps.{echoed, stepAfter};
 ghost use Rattle.report.specs.Windows.{readyIn, playedIn, asLeaves, leftBy, Goes};

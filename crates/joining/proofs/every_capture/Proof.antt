@@ -4,7 +4,7 @@ use mathlib.Core.Path.{_≡_, refl, sym, ap, _∙_}
 use mathlib.Core.List.{List, [], _∷_, _++_, append-nil, append-assoc}
 use mathlib.Core.Bool.{Bool, true, false, cond}
 use lib.ListN.{length, drop, replicate}
-use Rattle.openings.specs.Opening.{beginning}
+use Rattle.beginnings.specs.Beginning.{beginning}
 use Rattle.report.specs.Steps.{textFrom}
 use Rattle.report.specs.Windows.{playedIn}
 use Rattle.report.proofs.Going.{played-whole}

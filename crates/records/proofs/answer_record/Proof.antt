@@ -12,8 +12,8 @@ use Rattle.records.proofs.answer_record.Tie as tie
 use Rattle.records.specs.Handling.{leading}
 use Rattle.records.proofs.Laws.{says-reset, says-item, item-lent}
 
-opening-session-requires : tie.Need-opening-session-requires
-opening-session-requires c κs = search needs
+reset-session-requires : tie.Need-reset-session-requires
+reset-session-requires c κs = search needs
 
 leave-requires : tie.Need-leave-requires
 leave-requires c κs = search needs
@@ -22,7 +22,7 @@ returns : tie.Need-returns
 returns c =
     let test = c .before .before in
     let a = test .before .before .before .args in
-    rw (c .leave .ensures, c .before .opening-session .ensures)
+    rw (c .leave .ensures, c .before .reset-session .ensures)
     (says-reset (a .session) (now (a .sram)) (a .kind) (now (a .body)) (test .if1 .taken))
 
 half-requires : tie.Need-half-requires
@@ -69,7 +69,7 @@ pub answer-record-spec : {M : Type 1} → statement M
 answer-record-spec =
     tie.close
     (tie.spec
-    opening-session-requires
+    reset-session-requires
     leave-requires
     returns
     half-requires

@@ -9,7 +9,7 @@ use borrow.Author.Needs.{needs}
 use Rattle.capture.specs.Records.{found}
 use Rattle.capture.proofs.Laws.{lent-whole}
 use Rattle.records.specs.Handling.{asHandles, handlesOf}
-use Rattle.openings.specs.Opening.{keeping}
+use Rattle.beginnings.specs.Beginning.{keeping}
 use Rattle.report.specs.declared.Turn.{Turn}
 use Rattle.report.specs.Windows.{Leaves, Goes}
 use Rattle.report.proofs.play.Statement.{statement}

@@ -13,7 +13,7 @@ use Rattle.text.specs.Places.{asOutput}
 use Rattle.text.proofs.Laws.{record-length, last-length}
 use Rattle.report.proofs.print_handled.Statement.{statement}
 use Rattle.report.proofs.print_handled.Tie as tie
-use Rattle.openings.specs.Opening.{keeping}
+use Rattle.beginnings.specs.Beginning.{keeping}
 use Rattle.report.specs.Steps.{Step, echoed, closing}
 use Rattle.report.specs.Turns.{printedOf}
 use Rattle.report.proofs.Laws.{told-bad, told-end, told-record, last-behind}

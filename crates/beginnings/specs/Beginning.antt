@@ -8,8 +8,8 @@ use Rattle.stages.specs.declared.Session.{Session}
 use Rattle.starts.specs.Fresh.{freshSession}
 
 -- the session that a reset gives, and with which a capture begins: waiting, with "the public password"
-abbrev pub opening : Session
-opening = freshSession publicPassword
+abbrev pub resetSession : Session
+resetSession = freshSession publicPassword
 
 -- what the program keeps from record to record: the number of the next record, the session and SRAM
 pub record Carried : Type 0 where
@@ -22,4 +22,4 @@ keeping number session sram = record { number = number; session = session; sram 
 
 -- "with zeroed SRAM and the public password"; "its number from 1"
 abbrev pub beginning : Carried
-beginning = keeping 1 opening (replicate size 0)
+beginning = keeping 1 resetSession (replicate size 0)

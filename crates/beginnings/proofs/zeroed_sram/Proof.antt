@@ -1,8 +1,8 @@
--- `openings::zeroed_sram` meets its contract: 65,536 is SRAM's size.
+-- `beginnings::zeroed_sram` meets its contract: 65,536 is SRAM's size.
 use mathlib.Core.Path.{refl}
 use Rattle.sram.specs.Region.{size}
-use Rattle.openings.proofs.zeroed_sram.Statement.{statement}
-use Rattle.openings.proofs.zeroed_sram.Tie as tie
+use Rattle.beginnings.proofs.zeroed_sram.Statement.{statement}
+use Rattle.beginnings.proofs.zeroed_sram.Tie as tie
 
 returns : tie.Need-returns
 unfolding size

@@ -1,6 +1,6 @@
 // What a capture begins with (01, "The truck's capture file").
 ghost use mathlib.Core.Path.{_≡_};
-ghost use Rattle.openings.specs.Opening.{opening, keeping, beginning};
+ghost use Rattle.beginnings.specs.Beginning.{resetSession, keeping, beginning};
 use stages::Session;
 
 // The number of the first record, and the session before it.
@@ -10,8 +10,8 @@ pub struct Begun {
 }
 
 // The session that a reset gives, and with which a capture begins.
-pub fn opening_session() -> Session
-    ensures { λ r. ⌜ r ≡ opening ⌝ }
+pub fn reset_session() -> Session
+    ensures { λ r. ⌜ r ≡ resetSession ⌝ }
 {
     starts::waiting(controls::PUBLIC)
 }
@@ -22,7 +22,7 @@ pub fn begin() -> Begun
 {
     Begun {
         number: 1,
-        session: opening_session(),
+        session: reset_session(),
     }
 }
 
