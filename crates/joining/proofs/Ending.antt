@@ -3,9 +3,9 @@ use Prim.Native.Nat.{ℕ, zero, suc, _+_, _-_, _≤_, _<_}
 use native.Mathlib.Omega.{arith}
 use mathlib.Core.Path.{_≡_, refl, sym, ap, _∙_}
 use mathlib.Core.List.{List, [], _∷_, _++_}
-use mathlib.Core.Bool.{Bool, true, false, cond, false≢true}
+use mathlib.Core.Bool.{Bool, true, false, cond, _||_, false≢true}
 use borrow.Author.Tests.{le-leb, lt-ltb}
-use lib.Dec.{eqb}
+use lib.Dec.{eqb, leb}
 use lib.ListN.{length, drop, replicate, length-append, length-drop}
 use Rattle.capture.specs.Records.{found}
 use Rattle.records.specs.Handling.{handlesOf}
@@ -13,7 +13,7 @@ use Rattle.beginnings.specs.Beginning.{Carried}
 use Rattle.report.specs.Steps.{Step, stepOf, stepFrom, stepAfter}
 use Rattle.report.specs.Windows.{Playing, atFirst, onward, ready, plays, playedIn}
 use Rattle.report.proofs.Going.{step-within}
-use Rattle.joining.specs.Joining.{Reading, Between, captureOf, windowOf, behind, called, calls, atEnd, atStart, toTheEnd}
+use Rattle.joining.specs.Joining.{Reading, Between, captureOf, onWindow, windowOf, behind, called, calls, atEnd, atStart, toTheEnd}
 
 -- a record's number is one more than the last one's, and no more than that
 step-number : (kept : Carried) (bytes : List ℕ) → stepFrom kept bytes .kept .number ≤ kept .number + 1
@@ -104,12 +104,14 @@ module _ (window : List ℕ) (last : Bool) (room : ℕ) where
           let here = onward-within (atFirst kept) (omega arith) o in
           omega (arith, here .1, plays-within (length window) first (here .0 .1) e .0)
 
--- at the end of the capture it can, where there is room
-ready-last : (window : List ℕ) (room : ℕ) (kept : Carried) → 96 ≤ room → kept .number < 0xFFFF_FFFF_FFFF_FFFF
-    → ready window true room (atFirst kept) ≡ true
+-- where there is room, 14 bytes or the end of the capture are enough for that
+ready-first : (window : List ℕ) (last : Bool) (room : ℕ) (kept : Carried) → 96 ≤ room → kept .number < 0xFFFF_FFFF_FFFF_FFFF
+    → last || leb 14 (length window) ≡ true
+    → ready window last room (atFirst kept) ≡ true
 unfolding ready
-ready-last window room kept wide small =
-    rw (le-leb 96 (room - 0) (omega (arith, wide)), lt-ltb (kept .number) 0xFFFF_FFFF_FFFF_FFFF small)
+ready-first window last room kept wide small seen =
+    let none : length window - 0 ≡ length window = omega arith in
+    rw (none, seen, le-leb 96 (room - 0) (omega (arith, wide)), lt-ltb (kept .number) 0xFFFF_FFFF_FFFF_FFFF small)
 
 module _ (room : ℕ) where
   -- after the text has ended there are no more calls
@@ -125,7 +127,7 @@ module _ (room : ℕ) where
       by-ended false o = o
 
   call-on : (b : Between) (reading : Reading) → b .ended ≡ false
-      → called room b reading ≡ behind b (windowOf b reading) (playedIn (windowOf b reading) (reading .last) room (b .kept))
+      → called room b reading ≡ behind b (onWindow (windowOf b reading) (reading .last) room (b .kept))
   call-on b reading e = rw e
 
   -- bytes that are left were there or were read, and no more records were counted than bytes went
@@ -154,17 +156,20 @@ module _ (room : ℕ) where
       let long = length-append (reading .bytes) (captureOf readings) in
       (omega (arith, first .0, rest .0, long), omega (arith, first .1, rest .1, long))
 
-  -- at the end of the capture a call ends the text or leaves fewer bytes
-  call-last : (b : Between) → 96 ≤ room → b .kept .number < 0xFFFF_FFFF_FFFF_FFFF → called room b atEnd .ended ≡ false
-      → length (called room b atEnd .rest) + 4 ≤ length (b .rest)
-  call-last b wide small e =
-      let window = windowOf b atEnd in
-      let same = call-on b atEnd (not-over b (atEnd ∷ []) e) in
-      let p = playedIn window true room (b .kept) in
+  -- a call that has room, and bytes enough or the end of the capture, ends the text or leaves fewer bytes
+  pub call-goes-on : (b : Between) (reading : Reading) → 96 ≤ room → b .kept .number < 0xFFFF_FFFF_FFFF_FFFF
+      → reading .last || leb 14 (length (windowOf b reading)) ≡ true
+      → called room b reading .ended ≡ false
+      → length (called room b reading .rest) + 4 ≤ length (windowOf b reading)
+  call-goes-on b reading wide small seen e =
+      let window = windowOf b reading in
+      let last = reading .last in
+      let same = call-on b reading (not-over b (reading ∷ []) e) in
+      let p = playedIn window last room (b .kept) in
       let ended = sym (ap (λ (c : Between). c .ended) same) ∙ e in
-      let some = played-some window true room (b .kept) (ready-last window room (b .kept) wide small) ended in
-      let within = played-within window true room (b .kept) ended in
-      rw same (omega (arith, some, within .0, length-append (b .rest) [], length-drop (p .place) window))
+      let some = played-some window last room (b .kept) (ready-first window last room (b .kept) wide small seen) ended in
+      let within = played-within window last room (b .kept) ended in
+      rw same (omega (arith, some, within .0, length-drop (p .place) window))
 
   finish : (n : ℕ) (b : Between) → 96 ≤ room → length (b .rest) < n
       → b .kept .number + length (b .rest) < 0xFFFF_FFFF_FFFF_FFFF
@@ -173,7 +178,7 @@ module _ (room : ℕ) where
   finish (suc n) b wide few small =
       by-ended (called room b atEnd .ended) refl
       (λ e. let less = call-less b atEnd e in
-      finish n (called room b atEnd) wide (omega (arith, few, call-last b wide (omega (arith, small)) e)) (omega (arith, small, less .1)))
+      finish n (called room b atEnd) wide (omega (arith, few, call-goes-on b atEnd wide (omega (arith, small)) refl e, length-append (b .rest) [])) (omega (arith, small, less .1)))
     where
       by-ended
           : (t : Bool)

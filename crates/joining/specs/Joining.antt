@@ -2,27 +2,28 @@
 use Prim.Native.Nat.{ℕ, suc, _+_, _≤_, _<_}
 use mathlib.Core.Path.{_≡_}
 use mathlib.Core.List.{List, [], _∷_, _++_}
-use mathlib.Core.Bool.{Bool, true, false, cond}
+use mathlib.Core.Bool.{Bool, true, false, cond, _||_}
 use lib.ListN.{length, drop, replicate}
+use lib.Dec.{leb}
 use Rattle.beginnings.specs.Beginning.{Carried, beginning}
 use Rattle.report.specs.Steps.{textFrom}
-use Rattle.report.specs.Windows.{Playing, playedIn}
+use Rattle.report.specs.Windows.{playedIn}
 
--- what a read brings: the next bytes of the capture, and whether it ends with them
+-- what a read brings: the next bytes of the capture, and whether the capture ends with them
 pub record Reading : Type 0 where
   pub bytes : List ℕ
   pub last : Bool
 
--- the capture
+-- the capture, by all that is read of it
 abbrev pub captureOf : List Reading → List ℕ
 captureOf [] = []
 captureOf (reading ∷ readings) = reading .bytes ++ captureOf readings
 
--- a read at its end
+-- a read at the end of the capture
 abbrev pub atEnd : Reading
 atEnd = record { bytes = []; last = true }
 
--- no bytes come after its end
+-- no reading brings bytes after one with which the capture ends
 abbrev pub Ordered : List Reading → Type 0
 Ordered [] = Unit {0}
 Ordered (reading ∷ readings) = (reading .last ≡ true → captureOf readings ≡ []) × Ordered readings
@@ -34,25 +35,31 @@ pub record Between : Type 0 where
   pub rest : List ℕ
   pub kept : Carried
 
--- a call's window: what was left, and then what is read
+-- one call, on a window and with so much room for text
+abbrev pub onWindow : List ℕ → Bool → ℕ → Carried → Between
+onWindow window last room kept =
+    let p = playedIn window last room kept in
+    record { text = p .text; ended = p .ended; rest = drop (p .place) window; kept = p .kept }
+
+-- its text goes behind the text so far
+abbrev pub behind : Between → Between → Between
+behind here next =
+    record { text = here .text ++ next .text; ended = next .ended; rest = next .rest; kept = next .kept }
+
+-- a read and a call, whose window is what was left and then what is read; none once the text has ended
 abbrev pub windowOf : Between → Reading → List ℕ
 windowOf here reading = here .rest ++ reading .bytes
 
-abbrev pub behind : Between → List ℕ → Playing → Between
-behind here window p =
-    record { text = here .text ++ p .text; ended = p .ended; rest = drop (p .place) window; kept = p .kept }
-
--- a read and a call, with so much room for text; none once the text has ended
 abbrev pub called : ℕ → Between → Reading → Between
 called room here reading =
-    let window = windowOf here reading in
-    cond (here .ended) here (behind here window (playedIn window (reading .last) room (here .kept)))
+    cond (here .ended) here (behind here (onWindow (windowOf here reading) (reading .last) room (here .kept)))
 
+-- a list of readings, each with its call
 abbrev pub calls : ℕ → Between → List Reading → Between
 calls room here [] = here
 calls room here (reading ∷ readings) = calls room (called room here reading) readings
 
--- before the first of them
+-- before the first call
 abbrev pub atStart : Between
 atStart = record { text = []; ended = false; rest = []; kept = beginning }
 
@@ -60,7 +67,7 @@ atStart = record { text = []; ended = false; rest = []; kept = beginning }
 abbrev pub wholeText : Between → List ℕ → List ℕ
 wholeText here later = here .text ++ cond (here .ended) [] (textFrom (here .kept) (here .rest ++ later))
 
--- and then at its end, as often as there are bytes and once more: each call there ends the text or takes a record
+-- the readings, then as many at the end of the capture as it has bytes, and one more
 abbrev pub toTheEnd : List Reading → List Reading
 toTheEnd readings = readings ++ replicate (suc (length (captureOf readings))) atEnd
 
@@ -69,7 +76,12 @@ pub record EveryCapture : Type 0 where
   -- at any time its text is what the calls have written and then, unless that has ended, the text for what is left and still to be read
   pub so-far : (room : ℕ) (done later : List Reading) → Ordered (done ++ later)
       → textFrom beginning (captureOf (done ++ later)) ≡ wholeText (calls room atStart done) (captureOf later)
-  -- read to the end, with room for a record's 96 bytes of text and a number for each record, it ends, and the calls have written just its text
+  -- with room for a record's text and a number for it, and 14 bytes in its window or the end of the capture, a call ends the text or takes a record
+  pub goes-on : (room : ℕ) (here : Between) (reading : Reading) → 96 ≤ room → here .kept .number < 0xFFFF_FFFF_FFFF_FFFF
+      → reading .last || leb 14 (length (windowOf here reading)) ≡ true
+      → called room here reading .ended ≡ false
+      → length (called room here reading .rest) + 4 ≤ length (windowOf here reading)
+  -- so a capture of less than 2^64 - 2 bytes that is read to its end has its text written, whole and no more
   pub whole : (room : ℕ) (readings : List Reading) → Ordered readings → 96 ≤ room
       → length (captureOf readings) + 1 < 0xFFFF_FFFF_FFFF_FFFF
       → (calls room atStart (toTheEnd readings) .ended ≡ true)

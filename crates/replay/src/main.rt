@@ -1,4 +1,4 @@
-// `replay`: a capture on standard input, its text on standard output (01, "The truck's capture file"). The work is in `report`;
+// `replay`: a capture on standard input, its text on standard output (01, "The truck's capture file"). The work is in `windows`;
 // this program only reads, calls and writes.
 ghost use Prim.Native.Nat.{_≤_};
 ghost use lib.ListN.{length};
@@ -13,10 +13,11 @@ struct Input {
     last: bool,
 }
 
-// What goes on from window to window: how many bytes of the window are still to be read, whether the text has ended, the number
-// of the next record and the session.
+// What goes on from window to window: how many bytes at the window's start are still to be played, whether the input and the text
+// have ended, the number of the next record and the session.
 struct Run {
     filled: usize,
+    last: bool,
     ended: bool,
     number: u64,
     session: Session,
@@ -28,14 +29,15 @@ struct Sent {
     failed: bool,
 }
 
-// Reads once. A read that a signal interrupts brings nothing; after one that fails the input counts as ended.
-fn read_once(part: &mut [u8]) -> Input
+// Reads once, unless the input has ended or there is no room: to read no bytes looks like the end. A read that a signal interrupts
+// brings nothing; after one that fails the input counts as ended.
+fn read_once(part: &mut [u8], last: bool) -> Input
     ensures { λ r. ⌜ r .count ≤ length (now (part .entry)) ⌝ }
 {
-    if part.len() == 0 {
+    if last | (part.len() == 0) {
         return Input {
             count: 0,
-            last: false,
+            last: last,
         };
     }
     let got = libc::read(STDIN_FILENO, part);
@@ -103,22 +105,28 @@ fn write_out(out: &[u8]) -> bool {
     sent.failed
 }
 
-// Reads behind what the window holds, plays what can be played, writes its text, and moves the rest to the window's start.
+// Reads behind what the window holds, plays what can be played, and writes its text.
 fn play_on(window: &mut [u8], sram: &mut [u8], out: &mut [u8], run: Run) -> Run {
     let filled = octets::least(run.filled, window.len());
-    let input = read_once(&mut window[filled..]);
+    let input = read_once(&mut window[filled..], run.last);
     let have = filled + input.count;
     let session = run.session;
-    let played = report::play(&window[0..have], input.last, run.number, session, sram, out);
-    let turn = played.turn;
-    let next = played.session;
-    let used = octets::least(turn.used, out.len());
+    let standing = windows::play_window(
+        &mut window[0..have],
+        input.last,
+        run.number,
+        session,
+        sram,
+        out,
+    );
+    let next = standing.session;
+    let used = octets::least(standing.used, out.len());
     let failed = write_out(&out[0..used]);
-    let left = filling::slide(&mut window[0..have], turn.place);
     Run {
-        filled: left,
-        ended: turn.ended | failed,
-        number: turn.number,
+        filled: standing.left,
+        last: input.last,
+        ended: standing.ended | failed,
+        number: standing.number,
         session: next,
     }
 }
@@ -129,6 +137,7 @@ fn play_all(window: &mut [u8], sram: &mut [u8], out: &mut [u8]) {
     let session = first.session;
     let mut run = Run {
         filled: 0,
+        last: false,
         ended: false,
         number: first.number,
         session: session,

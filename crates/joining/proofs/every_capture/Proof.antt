@@ -9,7 +9,7 @@ use Rattle.report.specs.Steps.{textFrom}
 use Rattle.report.specs.Windows.{playedIn}
 use Rattle.report.proofs.Going.{played-whole}
 use Rattle.joining.specs.Joining.{Reading, Between, captureOf, Ordered, windowOf, called, calls, wholeText, atEnd, atStart, toTheEnd}
-use Rattle.joining.proofs.Ending.{text-ends}
+use Rattle.joining.proofs.Ending.{call-goes-on, text-ends}
 use Rattle.joining.proofs.every_capture.Statement.{statement}
 use Rattle.joining.proofs.every_capture.Tie as tie
 
@@ -56,6 +56,7 @@ returns : tie.Need-returns
 returns c =
     record {
       so-far = λ room done later ordered. calls-keep room atStart done later ordered;
+      goes-on = call-goes-on;
       whole = λ room readings ordered wide small.
           let all = toTheEnd readings in
           let n = suc (length (captureOf readings)) in

@@ -1,0 +1,33 @@
+-- A window of a capture, as the program holds it (01, "The truck's capture file").
+use Prim.Native.Nat.{ℕ}
+use mathlib.Core.List.{List}
+use lib.ListN.{take}
+use Rattle.filling.specs.Write.{over}
+use Rattle.beginnings.specs.Beginning.{keeping}
+use Rattle.joining.specs.Joining.{Between}
+use Rattle.windows.specs.declared.Standing.{Standing}
+
+-- after a window: where the capture's text stands, and every byte of the window and of the output
+pub record Stands : Type 0 where
+  pub between : Between
+  pub window : List ℕ
+  pub out : List ℕ
+
+-- a call: what it returns, and the window, SRAM and the output as it leaves them; the text is the output's start, what is left the window's
+abbrev pub asStands : Standing → List ℕ → List ℕ → List ℕ → Stands
+asStands r window sram out =
+    record {
+      between = record {
+        text = take (r .used) out;
+        ended = r .ended;
+        rest = take (r .left) window;
+        kept = keeping (r .number) (r .session) sram;
+      };
+      window = window;
+      out = out;
+    }
+
+-- text and what is left are written over the first places, and all else is as it was
+abbrev pub standsAfter : Between → List ℕ → List ℕ → Stands
+standsAfter between window out =
+    record { between = between; window = over (between .rest) window; out = over (between .text) out }
