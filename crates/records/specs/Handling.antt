@@ -41,7 +41,7 @@ abbrev pub asHandles : Handled → List ℕ → Handles
 asHandles handled sram =
     record { number = handled .number; kind = handled .kind; taken = handled .taken; call = asAfter (handled .reply) sram }
 
--- a bad record and the end mark are not answered
+-- of a record found at 0: a bad one and the end mark are not handed to the session, which stays as it is, and `call` is not printed then
 unfoldable pub handlesOf : Session → List ℕ → Read → Handles
 handlesOf session sram read =
     record {

@@ -31,8 +31,9 @@ onward window p =
       kept = stepFrom (p .kept) bytes .kept;
     }
 
--- A record is read where 14 bytes of the window are left, or the capture ends with it. Its text, which is never longer than 96
--- bytes, must have room, and its number must not be the largest that 64 bits hold.
+-- A record is read where at least 14 bytes of the window are left, which is the longest record (L 12 and the two bytes of L), or where
+-- the capture ends with the window. Its text, with a last line never longer than 96 bytes, must have room, and its number must not be
+-- the largest that 64 bits hold.
 abbrev pub readyIn : ℕ → Bool → ℕ → Bool → ℕ → Bool
 readyIn left last room ended number =
     not ended && (last || leb 14 left) && leb 96 room && ltb number 0xFFFF_FFFF_FFFF_FFFF

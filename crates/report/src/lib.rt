@@ -74,7 +74,7 @@ fn print_record(out: &mut [u8], used: usize, number: u64, taken: usize, answer: 
     }
 }
 
-// Prints a record that was handled.
+// Prints a record that was handled. Its text does not depend on SRAM, which the contract leaves out.
 fn print_handled(handled: Handled, number: u64, out: &mut [u8], used: usize) -> Turn
     requires { ⌜ (number < 0xFFFF_FFFF_FFFF_FFFF) × (used + 96 ≤ length (now out)) ⌝ }
     ensures { λ r. ⌜ asPrinted r (now (out .exit)) ≡ printedOf (stepAfter number (asHandles handled [])) (asOutput (now (out .entry)) used) ⌝ }

@@ -6,12 +6,12 @@ use mathlib.Core.Bool.{cond}
 use lib.ListN.{length, take, drop}
 use lib.Dec.{leb}
 
--- in front of a place: it stands from a start up to there, and all else is as it was
+-- text written in front of a place: it stands from a start up to that place, and all else is as it was
 pub record Wrote (before after text : List ℕ) (start place : ℕ) : Type 0 where
   pub ends : start + length text ≡ place
   pub leaves : after ≡ take start before ++ text ++ drop place before
 
--- behind what is there already: the bytes, and how many of them are used
+-- an output, to which text is appended: its bytes, and how many of them are used
 pub record Output : Type 0 where
   pub bytes : List ℕ
   pub used : ℕ
