@@ -81,7 +81,7 @@ pub record EveryCapture : Type 0 where
       → reading .last || leb 14 (length (windowOf here reading)) ≡ true
       → called room here reading .ended ≡ false
       → length (called room here reading .rest) + 4 ≤ length (windowOf here reading)
-  -- so a capture of less than 2^64 - 2 bytes that is read to its end has its text written, whole and no more
+  -- so a capture of fewer than 2^64 - 2 bytes that is read to its end has its text written, whole and no more
   pub whole : (room : ℕ) (readings : List Reading) → Ordered readings → 96 ≤ room
       → length (captureOf readings) + 1 < 0xFFFF_FFFF_FFFF_FFFF
       → (calls room atStart (toTheEnd readings) .ended ≡ true)

@@ -19,9 +19,9 @@ moved-stands list from =
     ∙ take-append-seam (drop from list) (drop (length (drop from list)) list)
 
 module _ (window out : List ℕ) where
-  -- by what the call that plays the window leaves, with its text, and what is left, as given
-  abbrev standing : Leaves → List ℕ → List ℕ → Stands
-  standing l text rest =
+  -- by what the call that plays the window leaves, with its text, what is left, and how much, as given
+  abbrev standing : Leaves → List ℕ → List ℕ → ℕ → Stands
+  standing l text rest left =
       let turn = l .played .turn in
       record {
         between = record {
@@ -30,6 +30,8 @@ module _ (window out : List ℕ) where
           rest = rest;
           kept = keeping (turn .number) (l .played .session) (l .sram);
         };
+        used = turn .used;
+        left = left;
         window = over (drop (turn .place) window) window;
         out = l .out;
       }
@@ -52,7 +54,17 @@ module _ (window out : List ℕ) where
       window′ sram′ out′
       ≡ standsAfter (record { text = p .text; ended = p .ended; rest = drop (p .place) window; kept = p .kept }) window out
   stands p played sram′ out′ leaves left left-is window′ window-is =
+      let place = played .turn .place in
+      let call = asLeaves played sram′ out′ in
+      let text = take (played .turn .used) out′ in
       rw (left-is, window-is)
-      (ap (standing (asLeaves played sram′ out′) (take (played .turn .used) out′)) (moved-stands window (played .turn .place))
-      ∙ ap (λ (l : Leaves). standing l (take (l .played .turn .used) (l .out)) (drop (l .played .turn .place) window)) leaves
-      ∙ ap (λ (text : List ℕ). standing (leftBy p out) text (drop (p .place) window)) (take-append-seam (p .text) (drop (length (p .text)) out)))
+      (ap (λ (rest : List ℕ). standing call text rest (length window - place)) (moved-stands window place)
+      ∙ ap (standing call text (drop place window)) (sym (length-drop place window))
+      ∙ ap
+      (λ (l : Leaves).
+      let rest = drop (l .played .turn .place) window in
+      standing l (take (l .played .turn .used) (l .out)) rest (length rest))
+      leaves
+      ∙ ap
+      (λ (text : List ℕ). standing (leftBy p out) text (drop (p .place) window) (length (drop (p .place) window)))
+      (take-append-seam (p .text) (drop (length (p .text)) out)))
