@@ -1,10 +1,14 @@
 // What a capture begins with (01, "The truck's capture file").
 ghost use mathlib.Core.Path.{_≡_};
-ghost use Rattle.beginnings.specs.Beginning.{resetSession, keeping, beginning};
+ghost use Rattle.beginnings.specs.Beginning.{resetSession, beginning, firstStanding};
 use stages::Session;
 
-// The number of the first record, and the session before it.
-pub struct Begun {
+// Where the program stands between two windows of a capture: how much of the output is text, how many bytes of the window are left,
+// which stand at its start, whether the text has ended, the number of the next record and the session.
+pub struct Standing {
+    pub used: usize,
+    pub left: usize,
+    pub ended: bool,
     pub number: u64,
     pub session: Session,
 }
@@ -16,11 +20,14 @@ pub fn reset_session() -> Session
     starts::waiting(controls::PUBLIC)
 }
 
-// The first record's number, and that session.
-pub fn begin() -> Begun
-    ensures { λ r. ⌜ keeping (r .number) (r .session) (beginning .sram) ≡ beginning ⌝ }
+// Before the first window.
+pub fn begin() -> Standing
+    ensures { λ r. ⌜ r ≡ firstStanding ⌝ }
 {
-    Begun {
+    Standing {
+        used: 0,
+        left: 0,
+        ended: false,
         number: 1,
         session: reset_session(),
     }

@@ -46,10 +46,11 @@ abbrev pub behind : Between → Between → Between
 behind here next =
     record { text = here .text ++ next .text; ended = next .ended; rest = next .rest; kept = next .kept }
 
--- a read and a call, whose window is what was left and then what is read; none once the text has ended
+-- a call's window: what was left, and then what is read
 abbrev pub windowOf : Between → Reading → List ℕ
 windowOf here reading = here .rest ++ reading .bytes
 
+-- a read and a call; none once the text has ended
 abbrev pub called : ℕ → Between → Reading → Between
 called room here reading =
     cond (here .ended) here (behind here (onWindow (windowOf here reading) (reading .last) room (here .kept)))

@@ -2,10 +2,10 @@
 // this program only reads, calls and writes.
 ghost use Prim.Native.Nat.{_≤_};
 ghost use lib.ListN.{length};
+use beginnings::Standing;
 use libc::STDERR_FILENO;
 use libc::STDIN_FILENO;
 use libc::STDOUT_FILENO;
-use stages::Session;
 
 // What a read brought: how many bytes, and whether the input has ended.
 struct Input {
@@ -13,14 +13,12 @@ struct Input {
     last: bool,
 }
 
-// What goes on from window to window: how many bytes at the window's start are still to be played, whether the input and the text
-// have ended, the number of the next record and the session.
+// What goes on from window to window: where the program stands, whether the input has ended, and whether the text has, or a write
+// has failed.
 struct Run {
-    filled: usize,
+    standing: Standing,
     last: bool,
     ended: bool,
-    number: u64,
-    session: Session,
 }
 
 // How much of the output is written, and whether a write failed.
@@ -107,40 +105,26 @@ fn write_out(out: &[u8]) -> bool {
 
 // Reads behind what the window holds, plays what can be played, and writes its text.
 fn play_on(window: &mut [u8], sram: &mut [u8], out: &mut [u8], run: Run) -> Run {
-    let filled = octets::least(run.filled, window.len());
+    let before = run.standing;
+    let filled = octets::least(before.left, window.len());
     let input = read_once(&mut window[filled..], run.last);
     let have = filled + input.count;
-    let session = run.session;
-    let standing = windows::play_window(
-        &mut window[0..have],
-        input.last,
-        run.number,
-        session,
-        sram,
-        out,
-    );
-    let next = standing.session;
+    let standing = windows::play_window(&mut window[0..have], input.last, before, sram, out);
     let used = octets::least(standing.used, out.len());
     let failed = write_out(&out[0..used]);
     Run {
-        filled: standing.left,
+        standing: standing,
         last: input.last,
         ended: standing.ended | failed,
-        number: standing.number,
-        session: next,
     }
 }
 
 // Plays window after window until the text has ended.
 fn play_all(window: &mut [u8], sram: &mut [u8], out: &mut [u8]) {
-    let first = beginnings::begin();
-    let session = first.session;
     let mut run = Run {
-        filled: 0,
+        standing: beginnings::begin(),
         last: false,
         ended: false,
-        number: first.number,
-        session: session,
     };
     let mut turns = u64::MAX;
     while !run.ended & (0 < turns) {

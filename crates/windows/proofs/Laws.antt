@@ -9,7 +9,6 @@ use Rattle.beginnings.specs.Beginning.{keeping}
 use Rattle.report.specs.declared.Played.{Played}
 use Rattle.report.specs.Windows.{Playing, Leaves, asLeaves, leftBy}
 use Rattle.joining.specs.Joining.{Between}
-use Rattle.windows.specs.declared.Standing.{Standing}
 use Rattle.windows.specs.Window.{Stands, asStands, standsAfter}
 
 -- what is moved to the start of a list stands there

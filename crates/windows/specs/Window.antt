@@ -3,9 +3,9 @@ use Prim.Native.Nat.{ℕ}
 use mathlib.Core.List.{List}
 use lib.ListN.{length, take}
 use Rattle.filling.specs.Write.{over}
+use Rattle.beginnings.specs.declared.Standing.{Standing}
 use Rattle.beginnings.specs.Beginning.{keeping}
 use Rattle.joining.specs.Joining.{Between}
-use Rattle.windows.specs.declared.Standing.{Standing}
 
 -- after a window: where the capture's text stands, how long its text is and what is left, and every byte of the window and of the output
 pub record Stands : Type 0 where

@@ -27,8 +27,8 @@ returns : tie.Need-returns
 returns c =
     let moved = c .before .before .slide in
     let after = c .before .before .before .before .before .before .before .before .before .before in
-    let a = after .before .before .before .before .before .before .before .args in
-    let p = playedIn (now (a .window)) (a .last) (length (now (a .out))) (keeping (a .number) (a .session) (now (a .sram))) in
+    let a = after .before .before .before .before .before .before .before .before .args in
+    let p = playedIn (now (a .window)) (a .last) (length (now (a .out))) (keeping (a .standing .number) (a .standing .session) (now (a .sram))) in
     stands (now (a .window)) (now (a .out)) p
     (after .play .result) _ _ (after .play .ensures .0)
     (moved .result) (moved .ensures .0) _ (moved .ensures .1)
