@@ -20,7 +20,7 @@ pub fn reset_session() -> Session
     starts::waiting(controls::PUBLIC)
 }
 
-// Before the first window.
+// Where it stands before the first window.
 pub fn begin() -> Standing
     ensures { λ r. ⌜ r ≡ firstStanding ⌝ }
 {
@@ -33,7 +33,7 @@ pub fn begin() -> Standing
     }
 }
 
-// And zeroed SRAM.
+// The SRAM that a capture begins with.
 pub fn zeroed_sram() -> [u8; 65536]
     ensures { λ r. ⌜ r ≡ beginning .sram ⌝ }
 {
