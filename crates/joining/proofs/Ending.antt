@@ -5,31 +5,12 @@ use mathlib.Core.Path.{_≡_, refl, sym, ap, _∙_}
 use mathlib.Core.List.{List, [], _∷_, _++_}
 use mathlib.Core.Bool.{Bool, true, false, cond, _||_, false≢true}
 use borrow.Author.Tests.{le-leb, lt-ltb}
-use lib.Dec.{eqb, leb}
+use lib.Dec.{leb}
 use lib.ListN.{length, drop, replicate, length-append, length-drop}
-use Rattle.capture.specs.Records.{found}
-use Rattle.records.specs.Handling.{handlesOf}
 use Rattle.beginnings.specs.Beginning.{Carried}
-use Rattle.report.specs.Steps.{Step, stepOf, stepFrom, stepAfter}
 use Rattle.report.specs.Windows.{Playing, atFirst, onward, ready, plays, playedIn}
 use Rattle.report.proofs.Going.{step-within}
 use Rattle.joining.specs.Joining.{Reading, Between, captureOf, onWindow, windowOf, behind, called, calls, atEnd, atStart, toTheEnd}
-
--- a record's number is one more than the last one's, and no more than that
-step-number : (kept : Carried) (bytes : List ℕ) → stepFrom kept bytes .kept .number ≤ kept .number + 1
-unfolding stepOf stepAfter handlesOf
-step-number kept bytes =
-    by-tests (eqb (found 0 bytes .number) 0) (eqb (found 0 bytes .kind) 0) _ _ _ (omega arith) (omega arith) (omega arith)
-  where
-    by-tests
-        : (n k : Bool) (last next bad : Step)
-        → last .kept .number ≤ kept .number + 1
-        → next .kept .number ≤ kept .number + 1
-        → bad .kept .number ≤ kept .number + 1
-        → cond n (cond k last next) bad .kept .number ≤ kept .number + 1
-    by-tests true true last next bad a b c = a
-    by-tests true false last next bad a b c = b
-    by-tests false k last next bad a b c = c
 
 module _ (window : List ℕ) (last : Bool) (room : ℕ) where
   abbrev upTo : ℕ → Playing → Playing
@@ -54,10 +35,9 @@ module _ (window : List ℕ) (last : Bool) (room : ℕ) where
   onward-within p inside e =
       let left = drop (p .place) window in
       let some = step-within (p .kept) left in
-      let one = step-number (p .kept) left in
       let many = length-drop (p .place) window in
       let four = some .1 e in
-      ((omega arith, omega (arith, some .0, many, inside), omega (arith, one, four)), omega (arith, four))
+      ((omega arith, omega (arith, some .0, many, inside), omega (arith, some .2, four)), omega (arith, four))
 
   plays-within : (more : ℕ) (p : Playing) → p .place ≤ length window → upTo more p .ended ≡ false
       → Since p (upTo more p)

@@ -18,21 +18,23 @@ use Rattle.beginnings.specs.Beginning.{Carried}
 use Rattle.report.specs.Steps.{Step, recorded, closing, ends, stepOf, stepFrom, textIn, textFrom, keptAfter, stepAfter}
 use Rattle.report.specs.Windows.{Playing, atFirst, onward, ready, plays, playedIn, leftBy, Goes}
 
--- a step takes no more than there is, and at least 4 bytes where the text goes on
+-- a step takes no more than there is, and at least 4 bytes where the text goes on, and counts at most one record
 module _ (kept : Carried) (read : Read) (most : ℕ) (within : read .number ≡ 0 → (read .kind ≡ 0 → ⊥) → (4 ≤ read .next) × (read .next ≤ most)) where
   abbrev Inside : Step → Type 0
-  Inside step = (step .taken ≤ most) × (step .over ≡ false → 4 ≤ step .taken)
+  Inside step =
+      (step .taken ≤ most) × (step .over ≡ false → 4 ≤ step .taken) × (step .kept .number ≤ kept .number + 1)
 
   by-tests
       : (next : Carried) (call : After) (text line : List ℕ) (n k : Bool)
+      → next .number ≡ kept .number
       → eqb (read .number) 0 ≡ n
       → eqb (read .kind) 0 ≡ k
       → Inside (cond n (cond k (ends next text) (recorded next (read .next) call)) (ends next line))
-  by-tests next call text line true false en ek =
+  by-tests next call text line true false same en ek =
       let room = within (eqb-true (read .number) 0 en) (eqb-false (read .kind) 0 ek) in
-      (room .1, λ e. room .0)
-  by-tests next call text line true true en ek = (omega arith, λ e. absurd (false≢true (sym e)))
-  by-tests next call text line false k en ek = (omega arith, λ e. absurd (false≢true (sym e)))
+      (room .1, λ e. room .0, omega (arith, same))
+  by-tests next call text line true true same en ek = (omega arith, λ e. absurd (false≢true (sym e)), omega (arith, same))
+  by-tests next call text line false k same en ek = (omega arith, λ e. absurd (false≢true (sym e)), omega (arith, same))
 
   step-of-within : Inside (stepOf kept read)
   unfolding stepOf stepAfter handlesOf
@@ -48,9 +50,12 @@ module _ (kept : Carried) (read : Read) (most : ℕ) (within : read .number ≡ 
       (eqb (read .kind) 0)
       refl
       refl
+      refl
 
 pub step-within : (kept : Carried) (bytes : List ℕ)
-    → (stepFrom kept bytes .taken ≤ length bytes) × (stepFrom kept bytes .over ≡ false → 4 ≤ stepFrom kept bytes .taken)
+    → (stepFrom kept bytes .taken ≤ length bytes)
+    × (stepFrom kept bytes .over ≡ false → 4 ≤ stepFrom kept bytes .taken)
+    × (stepFrom kept bytes .kept .number ≤ kept .number + 1)
 step-within kept bytes =
     step-of-within kept (found 0 bytes) (length bytes)
     (λ e h. let room = found-next 0 bytes e h in (omega (arith, room .0), omega (arith, room .1)))

@@ -8,7 +8,6 @@ use Rattle.filling.specs.Write.{over}
 use Rattle.beginnings.specs.Beginning.{keeping}
 use Rattle.report.specs.declared.Played.{Played}
 use Rattle.report.specs.Windows.{Playing, Leaves, asLeaves, leftBy}
-use Rattle.joining.specs.Joining.{Between}
 use Rattle.windows.specs.Window.{Stands, asStands, standsAfter}
 
 -- what is moved to the start of a list stands there
