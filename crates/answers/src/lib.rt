@@ -1,13 +1,13 @@
-// What the head says back (01, "What the head says back"): the answer to an item, with its number and its echo, and what is due before the
-// session's rules.
+// What the head says back (01, "What the head says back"): the answer to an item, with its number and its echo, and the precheck that comes
+// before the session's rules.
 ghost use mathlib.Core.Path.{_≡_};
 ghost use lib.ListN.{take};
-ghost use Rattle.answers.specs.Answers.{refusalNumber, faultNumber, numberOf, firstDue, underPort, echoUnder, echoes, noEcho, left};
+ghost use Rattle.answers.specs.Answers.{refusalNumber, faultNumber, outcomeNumber, precheck, underPort, echoUnder, noEcho, echoIdentifier, echoOf, nothingTaken};
+use items::Role;
 use stages::Jump;
 use stages::Port;
 use stages::Refusal;
 use stages::Session;
-use stages::Stage;
 
 // The echo: the first `length` of `bytes`, for CAN under an identifier, which is 0 for serial and where nothing is echoed.
 pub struct Echo {
@@ -23,13 +23,13 @@ pub enum Fault {
     Unsound,
 }
 
-// What is due before the session's rules.
-pub enum Due {
-    Nothing,
+// What comes before the session's rules.
+pub enum Prechecked {
+    Passed,
     Refused(Fault),
 }
 
-// What a call says of its item (`numberOf` of specs/ gives the number).
+// What becomes of an item (`outcomeNumber` of specs/ gives the number).
 pub enum Outcome {
     Taken,
     Ignored,
@@ -44,8 +44,8 @@ pub struct Answer {
     pub echo: Echo,
 }
 
-// What a call returns: the answer, and the session after it.
-pub struct Reply {
+// The result of a step: the answer, and the session after it.
+pub struct StepResult {
     pub answer: Answer,
     pub session: Session,
 }
@@ -74,7 +74,7 @@ fn fault_number(fault: Fault) -> u8
 
 // The number of an outcome.
 pub fn outcome_number(outcome: Outcome) -> u8
-    ensures { λ r. ⌜ r ≡ numberOf outcome ⌝ }
+    ensures { λ r. ⌜ r ≡ outcomeNumber outcome ⌝ }
 {
     match outcome {
         Outcome::Taken => 0,
@@ -118,49 +118,53 @@ fn no_echo() -> Echo
     }
 }
 
-// The echo of bytes that a session's stage takes.
-pub fn echo_of(session: Session, port: Port, bytes: &[u8]) -> Echo
-    ensures { λ r. ⌜ r ≡ echoes (session .stage) port (take 8 (now (bytes .entry))) ⌝ }
+// The identifier under which CAN echoes what is taken in a role.
+fn echo_identifier(role: Role) -> u32
+    ensures { λ r. ⌜ r ≡ echoIdentifier role ⌝ }
 {
-    let stage = session.stage;
-    match stage {
-        Stage::Waiting => echo_under(under_port(port, 0x001), bytes),
-        Stage::Password => echo_under(under_port(port, 0x001), bytes),
-        Stage::Header(_) => echo_under(under_port(port, 0x002), bytes),
-        Stage::Data(_, _) => echo_under(under_port(port, 0x003), bytes),
-        Stage::Stopped(_) => no_echo(),
-        Stage::Jumped(_) => no_echo(),
+    match role {
+        Role::Password => 0x001,
+        Role::Header => 0x002,
+        Role::Data(_) => 0x003,
     }
 }
 
+// The echo of bytes that are taken in a role by a port.
+pub fn echo_of(role: Role, port: Port, bytes: &[u8]) -> Echo
+    ensures { λ r. ⌜ r ≡ echoOf role port (take 8 (now (bytes .entry))) ⌝ }
+{
+    echo_under(under_port(port, echo_identifier(role)), bytes)
+}
+
 // No echo, and the session as it is handed in.
-pub fn leave(session: Session, outcome: Outcome) -> Reply
-    ensures { λ r. ⌜ r ≡ left outcome session ⌝ }
+pub fn take_nothing(session: Session, outcome: Outcome) -> StepResult
+    ensures { λ r. ⌜ r ≡ nothingTaken outcome session ⌝ }
 {
     let answer = Answer {
         outcome: outcome,
         echo: no_echo(),
     };
-    Reply {
+    StepResult {
         answer: answer,
         session: session,
     }
 }
 
-// What is due before the session's rules: 7, then 8, then 6 for what is handed in where it is not of the right form.
-pub fn first_due(session: Session, sram: &[u8], formed: bool) -> Due
-    ensures { λ r. ⌜ r ≡ firstDue session (now (sram .entry)) formed ⌝ }
+// What comes before the session's rules: 7, then 8, then 6 for what is handed in where it is not of the right form.
+pub fn precheck(session: Session, sram: &[u8], formed: bool) -> Prechecked
+    ensures { λ r. ⌜ r ≡ precheck session (now (sram .entry)) formed ⌝ }
 {
-    let whole = sram::is_whole(sram);
+    let configuration = session.configuration;
+    let whole = sram::is_whole(configuration, sram);
     let sound = stages::is_sound(session);
     if !whole {
-        return Due::Refused(Fault::Size);
+        return Prechecked::Refused(Fault::Size);
     }
     if !sound {
-        return Due::Refused(Fault::Unsound);
+        return Prechecked::Refused(Fault::Unsound);
     }
     if !formed {
-        return Due::Refused(Fault::Form);
+        return Prechecked::Refused(Fault::Form);
     }
-    Due::Nothing
+    Prechecked::Passed
 }

@@ -1,36 +1,37 @@
--- The claim of `merging::run` follows from its equation.
+-- The claim of `batch::run` follows from its equation.
 use Prim.Native.Nat.{ℕ}
 use mathlib.Core.Path.{_≡_, refl, sym, ap, _∙_}
 use mathlib.Core.List.{List}
 use lib.ListN.{length}
 use Rattle.stages.specs.declared.Session.{Session}
 use Rattle.starts.specs.Fresh.{freshSession}
-use Rattle.answers.specs.declared.Due.{Due}
-use Rattle.answers.specs.Answers.{faultNumber, firstDue}
-use Rattle.answers.proofs.Laws.{nothing-due, fault-some}
-use Rattle.merging.specs.Running.{ran}
-use Rattle.batch.specs.Listing.{itemsOf, listFits, ListAfter, asListAfter, listRan, afterList, ListMerged, ListClaim}
+use Rattle.answers.specs.declared.Prechecked.{Prechecked}
+use Rattle.answers.specs.Answers.{faultNumber, precheck}
+use Rattle.answers.proofs.Laws.{precheck-passed, fault-some}
+use Rattle.rules.specs.Running.{ran}
+use Rattle.batch.specs.Listing.{itemsOf, listFits, ListResult, asListResult, listRan, runList, ListMerged, ListClaim}
 use Rattle.merging.proofs.Stream.{demand-three}
 
-module _ (session : Session) (sram kinds identifiers counts bytes answers : List ℕ) (leaves : ListAfter)
-    (eight : length (session .selected) ≡ 8) (e : leaves ≡ afterList session sram kinds identifiers counts bytes answers) where
+module _ (session : Session) (sram kinds identifiers counts bytes answers : List ℕ) (leaves : ListResult)
+    (eight : length (session .configuration .password) ≡ 8) (e : leaves ≡ runList session sram kinds identifiers counts bytes answers) where
   -- a call that gets 0 was refused for nothing
   answered
-      : (due : Due)
-      → firstDue session sram (listFits kinds identifiers counts (length bytes) (length answers)) ≡ due
-      → session ≡ freshSession (session .selected)
+      : (first : Prechecked)
+      → precheck session sram (listFits kinds identifiers counts (length bytes) (length answers)) ≡ first
+      → session ≡ freshSession (session .configuration)
       → leaves .number ≡ 0
-      → ListMerged (session .selected) sram (itemsOf kinds identifiers counts bytes) leaves
-  unfolding afterList
-  answered Due.Nothing none-due fresh zero =
+      → ListMerged (session .configuration) sram (itemsOf kinds identifiers counts bytes) leaves
+  unfolding runList
+  answered Prechecked.Passed passed fresh zero =
       let items = itemsOf kinds identifiers counts bytes in
+      let ok = precheck-passed session sram _ passed .0 in
       record {
-        is-run = e ∙ rw none-due (ap (λ (s : Session). listRan (ran s sram items)) fresh);
-        claim = demand-three (session .selected) sram items eight (nothing-due session sram _ none-due .0 .right);
+        is-run = e ∙ rw passed (ap (λ (s : Session). listRan (ran s sram items)) fresh);
+        claim = demand-three (session .configuration) sram items eight (rw fresh at (ok .fine)) (ok .right);
       }
-  answered (Due.Refused fault) is-due fresh zero =
-      let left : leaves ≡ asListAfter (faultNumber fault) session sram answers = e ∙ rw is-due in
-      absurd (fault-some fault (sym (ap (λ (l : ListAfter). l .number) left) ∙ zero))
+  answered (Prechecked.Refused fault) refused fresh zero =
+      let left : leaves ≡ asListResult (faultNumber fault) session sram answers = e ∙ rw refused in
+      absurd (fault-some fault (sym (ap (λ (l : ListResult). l .number) left) ∙ zero))
 
   pub claimed : ListClaim session sram kinds identifiers counts bytes answers leaves
   claimed = record { equation = e; demand-3 = answered _ refl }

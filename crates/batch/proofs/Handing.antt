@@ -13,19 +13,19 @@ use lib.Dec.{leb, eqb}
 use lib.ListN.{length, take, drop, getD, length-append, length-drop, drop-of-length-le}
 use lib.Seq.{drop-cons, drop-drop, getD-drop, take-at, take-all, length-take-le}
 use Rattle.answers.specs.declared.Answer.{Answer}
-use Rattle.answers.specs.declared.Reply.{Reply}
+use Rattle.answers.specs.declared.StepResult.{StepResult}
 use Rattle.stages.specs.declared.Session.{Session}
-use Rattle.answers.specs.Answers.{asAfter}
-use Rattle.items.specs.Items.{Item, itemOf}
-use Rattle.rules.specs.Rules.{after}
-use Rattle.numbers.specs.Writing.{answerNumbers}
+use Rattle.answers.specs.Answers.{resultOf}
+use Rattle.items.specs.Items.{Item, isItem, sourceOf}
+use Rattle.rules.specs.Rules.{step}
+use Rattle.numbers.specs.Writing.{answerWidth, answerNumbers}
 use Rattle.numbers.proofs.Whole.{answer-length}
-use Rattle.merging.specs.Running.{ran}
-use Rattle.batch.specs.Listing.{itemsOf, kindFits, partsFit, listFits, answerRows, asListAfter, listRan}
+use Rattle.rules.specs.Running.{ran}
+use Rattle.batch.specs.Listing.{itemsOf, partsFit, listFits, answerRows, asListResult, listRan}
 
 module _ (kinds counts : List ℕ) (i : ℕ) (h : i < length kinds) where
   pub parts-next : (left : ℕ) → partsFit (drop i kinds) (drop i counts) left
-      ≡ (kindFits (getD kinds i 0) (getD counts i 0)
+      ≡ (isItem (getD kinds i 0) (getD counts i 0)
       && leb (getD counts i 0) left
       && partsFit (drop (i + 1) kinds) (drop (i + 1) counts) (left - getD counts i 0))
   unfolding partsFit
@@ -34,7 +34,7 @@ module _ (kinds counts : List ℕ) (i : ℕ) (h : i < length kinds) where
 
   pub items-next : (identifiers bytes : List ℕ) (at : ℕ)
       → itemsOf (drop i kinds) (drop i identifiers) (drop i counts) (drop at bytes)
-      ≡ itemOf (getD kinds i 0) (getD identifiers i 0) (take (getD counts i 0) (drop at bytes))
+      ≡ Item.Of (sourceOf (getD kinds i 0) (getD identifiers i 0)) (take (getD counts i 0) (drop at bytes))
       ∷ itemsOf (drop (i + 1) kinds) (drop (i + 1) identifiers) (drop (i + 1) counts) (drop (at + getD counts i 0) bytes)
   unfolding itemsOf
   items-next identifiers bytes at =
@@ -50,9 +50,9 @@ module _ (kinds counts : List ℕ) (i : ℕ) (h : i < length kinds) where
       )
 
 -- the answers from a place on, lent, filled with an answer's numbers and given back
-pub answer-back : (answers : List ℕ) (at : ℕ) (answer : Answer) → at + 13 ≤ length answers
+pub answer-back : (answers : List ℕ) (at : ℕ) (answer : Answer) → at + answerWidth ≤ length answers
     → back answers at (filled (answerNumbers answer) (lent answers at))
-    ≡ take at answers ++ answerNumbers answer ++ drop (at + 13) answers
+    ≡ take at answers ++ answerNumbers answer ++ drop (at + answerWidth) answers
 answer-back answers at answer room =
     let n = answer-length answer in
     put-back answers (answerNumbers answer) at (omega arith) ∙ rw n
@@ -65,7 +65,7 @@ pub record Under
   pub within : at ≤ length bytes
   pub one-each : length counts ≡ length kinds
   pub ids-each : length identifiers ≡ length kinds
-  pub room : length answers ≡ 13 * length kinds
+  pub room : length answers ≡ answerWidth * length kinds
   pub same-room : length answers ≡ length answers₀
   pub same-sram : length sram ≡ length sram₀
   pub fits : partsFit (drop i kinds) (drop i counts) (length bytes - at) ≡ true
@@ -73,9 +73,9 @@ pub record Under
       ≡ ran session sram (itemsOf (drop i kinds) (drop i identifiers) (drop i counts) (drop at bytes)) .session
   pub srams : ran session₀ sram₀ (itemsOf kinds identifiers counts bytes) .sram
       ≡ ran session sram (itemsOf (drop i kinds) (drop i identifiers) (drop i counts) (drop at bytes)) .sram
-  pub rows : answerRows (ran session₀ sram₀ (itemsOf kinds identifiers counts bytes) .answers)
-      ≡ take (13 * i) answers
-      ++ answerRows (ran session sram (itemsOf (drop i kinds) (drop i identifiers) (drop i counts) (drop at bytes)) .answers)
+  pub rows : answerRows (ran session₀ sram₀ (itemsOf kinds identifiers counts bytes) .calls)
+      ≡ take (answerWidth * i) answers
+      ++ answerRows (ran session sram (itemsOf (drop i kinds) (drop i identifiers) (drop i counts) (drop at bytes)) .calls)
 
 module _ (session₀ : Session) (sram₀ kinds identifiers counts bytes answers₀ : List ℕ) where
   pub begun : listFits kinds identifiers counts (length bytes) (length answers₀) ≡ true
@@ -84,7 +84,7 @@ module _ (session₀ : Session) (sram₀ kinds identifiers counts bytes answers�
       let n = length kinds in
       let a = eqb (length identifiers) n in
       let b = eqb (length counts) n in
-      let c = eqb (length answers₀) (13 * n) in
+      let c = eqb (length answers₀) (answerWidth * n) in
       let d = partsFit kinds counts (length bytes) in
       let h = and-eq-true-iff (a && b && c) d .0 e in
       let j = and-eq-true-iff (a && b) c .0 (h .0) in
@@ -95,7 +95,7 @@ module _ (session₀ : Session) (sram₀ kinds identifiers counts bytes answers�
         within = omega arith;
         one-each = eqb-true (length counts) n (k .1);
         ids-each = eqb-true (length identifiers) n (k .0);
-        room = eqb-true (length answers₀) (13 * n) (j .1);
+        room = eqb-true (length answers₀) (answerWidth * n) (j .1);
         same-room = refl;
         same-sram = refl;
         fits = rw whole (h .1);
@@ -108,7 +108,7 @@ module _ (session₀ : Session) (sram₀ kinds identifiers counts bytes answers�
     -- the next item's bytes are there
     pub part-there : i < length kinds → at + getD counts i 0 ≤ length bytes
     part-there h =
-        let k = kindFits (getD kinds i 0) (getD counts i 0) in
+        let k = isItem (getD kinds i 0) (getD counts i 0) in
         let c = leb (getD counts i 0) (length bytes - at) in
         let p = partsFit (drop (i + 1) kinds) (drop (i + 1) counts) (length bytes - at - getD counts i 0) in
         let all : (k && c && p) ≡ true = sym (parts-next kinds counts i h (length bytes - at)) ∙ u .fits in
@@ -116,26 +116,26 @@ module _ (session₀ : Session) (sram₀ kinds identifiers counts bytes answers�
         omega (arith, u .within)
 
     -- one more item
-    pub turn : (reply : Reply) (sram′ answers′ : List ℕ) → i < length kinds
-        → asAfter reply sram′ ≡ after session sram (itemOf (getD kinds i 0) (getD identifiers i 0) (take (getD counts i 0) (drop at bytes)))
+    pub turn : (result : StepResult) (sram′ answers′ : List ℕ) → i < length kinds
+        → resultOf result sram′ ≡ step session sram (Item.Of (sourceOf (getD kinds i 0) (getD identifiers i 0)) (take (getD counts i 0) (drop at bytes)))
         → length sram′ ≡ length sram
-        → answers′ ≡ take (13 * i) answers ++ answerNumbers (reply .answer) ++ drop (13 * i + 13) answers
-        → Under session₀ sram₀ kinds identifiers counts bytes answers₀ sram′ answers′ (reply .session) (at + getD counts i 0) (i + 1)
+        → answers′ ≡ take (answerWidth * i) answers ++ answerNumbers (result .answer) ++ drop (answerWidth * i + answerWidth) answers
+        → Under session₀ sram₀ kinds identifiers counts bytes answers₀ sram′ answers′ (result .session) (at + getD counts i 0) (i + 1)
     unfolding ran answerRows
-    turn reply sram′ answers′ h e same written =
+    turn result sram′ answers′ h e same written =
         let count = getD counts i 0 in
-        let k = kindFits (getD kinds i 0) count in
+        let k = isItem (getD kinds i 0) count in
         let c = leb count (length bytes - at) in
         let p = partsFit (drop (i + 1) kinds) (drop (i + 1) counts) (length bytes - at - count) in
         let all : (k && c && p) ≡ true = sym (parts-next kinds counts i h (length bytes - at)) ∙ u .fits in
         let there = part-there h in
         let left : length bytes - (at + count) ≡ length bytes - at - count = omega arith in
-        let row = answerNumbers (reply .answer) in
-        let first = take (13 * i) answers in
-        let many : length first ≡ 13 * i = length-take-le (13 * i) answers (omega (arith, u .room)) in
-        let thirteen : length row ≡ 13 = answer-length (reply .answer) in
-        let seam : length (first ++ row) ≡ 13 * (i + 1) = length-append first row ∙ omega arith in
-        let length′ : length answers′ ≡ length answers = ap length written ∙ length-append (first ++ row) (drop (13 * i + 13) answers) ∙ omega (arith, length-drop (13 * i + 13) answers, u .room) in
+        let row = answerNumbers (result .answer) in
+        let first = take (answerWidth * i) answers in
+        let many : length first ≡ answerWidth * i = length-take-le (answerWidth * i) answers (omega (arith, u .room)) in
+        let thirteen : length row ≡ answerWidth = answer-length (result .answer) in
+        let seam : length (first ++ row) ≡ answerWidth * (i + 1) = length-append first row ∙ omega arith in
+        let length′ : length answers′ ≡ length answers = ap length written ∙ length-append (first ++ row) (drop (answerWidth * i + answerWidth) answers) ∙ omega (arith, length-drop (answerWidth * i + answerWidth) answers, u .room) in
         let next = items-next kinds counts i h identifiers bytes at in
         record {
           reached = omega arith;
@@ -150,18 +150,18 @@ module _ (session₀ : Session) (sram₀ kinds identifiers counts bytes answers�
           srams = u .srams ∙ rw (next, ← e);
           rows =
               u .rows
-              ∙ rw (next, ← e, written, take-at (first ++ row) (drop (13 * i + 13) answers) (13 * (i + 1)) seam, append-assoc);
+              ∙ rw (next, ← e, written, take-at (first ++ row) (drop (answerWidth * i + answerWidth) answers) (answerWidth * (i + 1)) seam, append-assoc);
         }
 
     -- all items
     pub ended : length kinds ≤ i
-        → asListAfter 0 session sram answers ≡ listRan (ran session₀ sram₀ (itemsOf kinds identifiers counts bytes))
+        → asListResult 0 session sram answers ≡ listRan (ran session₀ sram₀ (itemsOf kinds identifiers counts bytes))
     unfolding ran answerRows itemsOf
     ended h =
         let last : i ≡ length kinds = omega (arith, u .reached) in
         let none-left : drop i kinds ≡ [] = drop-of-length-le kinds {i = i} (omega arith) in
-        let full : take (13 * i) answers ≡ answers = take-all (13 * i) answers (omega (arith, u .room)) in
+        let full : take (answerWidth * i) answers ≡ answers = take-all (answerWidth * i) answers (omega (arith, u .room)) in
         let rest = itemsOf (drop i kinds) (drop i identifiers) (drop i counts) (drop at bytes) in
         let nothing : rest ≡ [] = rw none-left in
-        let none-ran : (r : List Item) → r ≡ [] → asListAfter 0 (ran session sram r .session) (ran session sram r .sram) (answers ++ answerRows (ran session sram r .answers)) ≡ asListAfter 0 session sram answers = λ r e. rw (e, append-nil) in
+        let none-ran : (r : List Item) → r ≡ [] → asListResult 0 (ran session sram r .session) (ran session sram r .sram) (answers ++ answerRows (ran session sram r .calls)) ≡ asListResult 0 session sram answers = λ r e. rw (e, append-nil) in
         rw (u .sessions, u .srams, u .rows, full) (sym (none-ran rest nothing))

@@ -4,28 +4,22 @@ ghost use Prim.Native.Nat.{_+_, _*_, _≤_};
 ghost use mathlib.Core.Bool.{true};
 ghost use mathlib.Core.List.{_++_};
 ghost use lib.ListN.{length, take, drop};
-ghost use Rattle.numbers.specs.Writing.{answerNumbers};
-ghost use Rattle.merging.specs.Running.{ran};
-ghost use Rattle.batch.specs.Listing.{itemsOf, kindFits, partsFit, listFits, asListAfter, listRan, ListClaim};
+ghost use Rattle.numbers.specs.Writing.{answerWidth, answerNumbers};
+ghost use Rattle.rules.specs.Running.{ran};
+ghost use Rattle.batch.specs.Listing.{itemsOf, partsFit, listFits, asListResult, listRan, ListClaim};
 use answers::Answer;
-use answers::Due;
 use answers::Outcome;
+use answers::Prechecked;
+use numbers::ANSWER_WIDTH;
 use stages::Session;
 
 // The number of the call, and the session after it.
-pub struct ListReply {
+pub struct ListReturn {
     pub number: u8,
     pub session: Session,
 }
 
-// Whether an item of a kind can have so many bytes.
-fn kind_fits(kind: u8, count: u32) -> bool
-    ensures { λ r. ⌜ r ≡ kindFits kind count ⌝ }
-{
-    (kind == 1) | (((kind == 2) | (kind == 3)) & (count == 1))
-}
-
-// Whether each kind fits its count, and the counts add up to so many bytes.
+// Whether each kind and count is an item's, and the counts add up to so many bytes.
 fn parts_fit(kinds: &[u8], counts: &[u32], total: usize) -> bool
     requires { ⌜ length (now counts) ≡ length (now kinds) ⌝ }
     ensures { λ r. ⌜ r ≡ partsFit (now (kinds .entry)) (now (counts .entry)) total ⌝ }
@@ -34,7 +28,7 @@ fn parts_fit(kinds: &[u8], counts: &[u32], total: usize) -> bool
     let mut i: usize = 0;
     while i < kinds.len() {
         let count = counts[i] as usize;
-        if !kind_fits(kinds[i], counts[i]) {
+        if !items::is_item(kinds[i], counts[i]) {
             return false;
         }
         if left < count {
@@ -56,10 +50,10 @@ fn list_fits(kinds: &[u8], identifiers: &[u32], counts: &[u32], total: usize, ro
     if counts.len() != kinds.len() {
         return false;
     }
-    if room % 13 != 0 {
+    if room % ANSWER_WIDTH != 0 {
         return false;
     }
-    if room / 13 != kinds.len() {
+    if room / ANSWER_WIDTH != kinds.len() {
         return false;
     }
     parts_fit(kinds, counts, total)
@@ -67,11 +61,11 @@ fn list_fits(kinds: &[u8], identifiers: &[u32], counts: &[u32], total: usize, ro
 
 // Writes the numbers of the answer to item i.
 fn put_answer(answers: &mut [u32], i: usize, answer: Answer)
-    requires { ⌜ 13 * i + 13 ≤ length (now answers) ⌝ }
-    ensures { λ _. ⌜ now (answers .exit) ≡ take (13 * i) (now (answers .entry)) ++ answerNumbers answer ++ drop (13 * i + 13) (now (answers .entry)) ⌝ }
+    requires { ⌜ answerWidth * i + answerWidth ≤ length (now answers) ⌝ }
+    ensures { λ _. ⌜ now (answers .exit) ≡ take (answerWidth * i) (now (answers .entry)) ++ answerNumbers answer ++ drop (answerWidth * i + answerWidth) (now (answers .entry)) ⌝ }
 {
     let row = numbers::answer_numbers(answer);
-    let at = 13 * i;
+    let at = ANSWER_WIDTH * i;
     filling::fill_words(&mut answers[at..], &row[..]);
 }
 
@@ -87,7 +81,7 @@ fn run_items(
 ) -> Session
     requires { ⌜ listFits (now kinds) (now identifiers) (now counts) (length (now bytes)) (length (now answers)) ≡ true ⌝ }
     ensures { λ r. ⌜
-        asListAfter 0 r (now (sram .exit)) (now (answers .exit))
+        asListResult 0 r (now (sram .exit)) (now (answers .exit))
         ≡ listRan (ran session (now (sram .entry)) (itemsOf (now (kinds .entry)) (now (identifiers .entry)) (now (counts .entry)) (now (bytes .entry))))
         ⌝ }
 {
@@ -96,10 +90,11 @@ fn run_items(
     let mut i: usize = 0;
     while i < kinds.len() {
         let end = at + counts[i] as usize;
-        let reply = rules::hand_in(current, sram, kinds[i], identifiers[i], &bytes[at..end]);
-        let answer = reply.answer;
+        let source = items::source_of(kinds[i], identifiers[i]);
+        let result = rules::hand_in(current, sram, source, &bytes[at..end]);
+        let answer = result.answer;
         put_answer(answers, i, answer);
-        let next = reply.session;
+        let next = result.session;
         current = next;
         at = end;
         i = i + 1;
@@ -116,22 +111,22 @@ pub fn run(
     counts: &[u32],
     bytes: &[u8],
     answers: &mut [u32],
-) -> ListReply
+) -> ListReturn
     ensures { λ r. ⌜
         ListClaim session (now (sram .entry)) (now (kinds .entry)) (now (identifiers .entry)) (now (counts .entry)) (now (bytes .entry)) (now (answers .entry))
-        (asListAfter (r .number) (r .session) (now (sram .exit)) (now (answers .exit)))
+        (asListResult (r .number) (r .session) (now (sram .exit)) (now (answers .exit)))
         ⌝ }
 {
     let formed = list_fits(kinds, identifiers, counts, bytes.len(), answers.len());
-    let due = answers::first_due(session, sram, formed);
-    if let Due::Refused(fault) = due {
-        return ListReply {
+    let first = answers::precheck(session, sram, formed);
+    if let Prechecked::Refused(fault) = first {
+        return ListReturn {
             number: answers::outcome_number(Outcome::Refused(fault)),
             session: session,
         };
     }
     let last = run_items(session, sram, kinds, identifiers, counts, bytes, answers);
-    ListReply {
+    ListReturn {
         number: 0,
         session: last,
     }

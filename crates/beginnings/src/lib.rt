@@ -1,15 +1,16 @@
 // What a capture begins with (01, "The truck's capture file").
 ghost use mathlib.Core.Path.{_≡_};
-ghost use Rattle.beginnings.specs.Beginning.{resetSession, beginning, firstStanding};
+ghost use Rattle.beginnings.specs.Beginning.{resetSession, beginning, firstProgress};
+use configuration::Entered;
 use stages::Session;
 
-// Where the program stands between two windows of a capture: how much of the output is text, how many bytes of the window are left,
-// which stand at its start, whether the text has ended, the number of the next record and the session.
-pub struct Standing {
+// How far the program is between two windows of a capture: how much of the output is text, how many bytes of the window are unread,
+// which are at its start, whether the text has ended, the ordinal of the next record, which is 1 for the first, and the session.
+pub struct Progress {
     pub used: usize,
-    pub left: usize,
+    pub unread: usize,
     pub ended: bool,
-    pub number: u64,
+    pub ordinal: u64,
     pub session: Session,
 }
 
@@ -17,18 +18,18 @@ pub struct Standing {
 pub fn reset_session() -> Session
     ensures { λ r. ⌜ r ≡ resetSession ⌝ }
 {
-    starts::waiting(controls::PUBLIC)
+    starts::fresh_serial(controls::PUBLIC, Entered::Directly)
 }
 
-// Where it stands before the first window.
-pub fn begin() -> Standing
-    ensures { λ r. ⌜ r ≡ firstStanding ⌝ }
+// How far it is before the first window.
+pub fn begin() -> Progress
+    ensures { λ r. ⌜ r ≡ firstProgress ⌝ }
 {
-    Standing {
+    Progress {
         used: 0,
-        left: 0,
+        unread: 0,
         ended: false,
-        number: 1,
+        ordinal: 1,
         session: reset_session(),
     }
 }

@@ -7,107 +7,107 @@ use mathlib.Core.Bool.{Bool, true, false, cond}
 use lib.ListN.{length, getD}
 use Rattle.controls.specs.declared.Asked.{Asked}
 use Rattle.boot.specs.declared.Choice.{Choice}
-use Rattle.boot.specs.declared.Entered.{Entered}
-use Rattle.places.specs.declared.Look.{Look}
+use Rattle.configuration.specs.declared.Entered.{Entered}
+use Rattle.places.specs.declared.Search.{Search}
 use Rattle.boot.specs.declared.Mode.{Mode}
 use Rattle.controls.specs.declared.Row.{Row}
-use Rattle.places.specs.Places.{flashPlaces, externalPlaces, good, walk}
+use Rattle.places.specs.Places.{flashPlaces, externalPlaces, goodPlace, searched}
 use Rattle.controls.specs.Table.{askedBy, rowFor}
-use Rattle.boot.specs.Choosing.{allowed, refusal, settled, chosen, bootChoice, numberOf, lookedOf}
+use Rattle.boot.specs.Choosing.{allowed, refusal, settled, chosen, bootChoice, choiceNumber, examinedOf}
 use Rattle.boot.specs.Claim.{ChoiceClaim, Ranked}
 
--- What the walk over any places found, after n others: the first good place, or that none is good.
-abbrev Walked : List ℕ → List ℕ → ℕ → (found : Bool) → (place looked : ℕ) → Type 0
-Walked memory places n true place looked =
+-- What the search of any places found, after n others: the first good place, or that none is good.
+abbrev Walked : List ℕ → List ℕ → ℕ → (found : Bool) → (place examined : ℕ) → Type 0
+Walked memory places n true place examined =
     (k : ℕ)
-    × (looked ≡ n + k + 1)
+    × (examined ≡ n + k + 1)
     × (k < length places)
     × (place ≡ getD places k 0)
-    × (good memory place ≡ true)
-    × ((i : ℕ) → i < k → good memory (getD places i 0) ≡ false)
-Walked memory places n false place looked =
-    (looked ≡ n + length places) × ((i : ℕ) → i < length places → good memory (getD places i 0) ≡ false)
+    × (goodPlace memory place ≡ true)
+    × ((i : ℕ) → i < k → goodPlace memory (getD places i 0) ≡ false)
+Walked memory places n false place examined =
+    (examined ≡ n + length places) × ((i : ℕ) → i < length places → goodPlace memory (getD places i 0) ≡ false)
 
 -- one bad place in front
 also
     : (memory : List ℕ) (p : ℕ) (places : List ℕ) (k : ℕ)
-    → good memory p ≡ false
-    → ((i : ℕ) → i < k → good memory (getD places i 0) ≡ false)
-    → (i : ℕ) → i < suc k → good memory (getD (p ∷ places) i 0) ≡ false
+    → goodPlace memory p ≡ false
+    → ((i : ℕ) → i < k → goodPlace memory (getD places i 0) ≡ false)
+    → (i : ℕ) → i < suc k → goodPlace memory (getD (p ∷ places) i 0) ≡ false
 also memory p places k e f zero h = e
 also memory p places k e f (suc i) h = f i (omega arith)
 
 more
-    : (memory : List ℕ) (p : ℕ) (places : List ℕ) (n : ℕ) (found : Bool) (place looked : ℕ)
-    → good memory p ≡ false
-    → Walked memory places (n + 1) found place looked
-    → Walked memory (p ∷ places) n found place looked
-more memory p places n true place looked e w =
+    : (memory : List ℕ) (p : ℕ) (places : List ℕ) (n : ℕ) (found : Bool) (place examined : ℕ)
+    → goodPlace memory p ≡ false
+    → Walked memory places (n + 1) found place examined
+    → Walked memory (p ∷ places) n found place examined
+more memory p places n true place examined e w =
     (suc (w .0), omega arith, omega arith, w .3, w .4, also memory p places (w .0) e (w .5))
-more memory p places n false place looked e w =
+more memory p places n false place examined e w =
     (omega arith, also memory p places (length places) e (w .1))
 
--- what the walk found, as one value
-abbrev Finds : List ℕ → List ℕ → ℕ → Look → Type 0
-Finds memory places n look = Walked memory places n (look .found) (look .place) (look .looked)
+-- what the search found, as one value
+abbrev Finds : List ℕ → List ℕ → ℕ → Search → Type 0
+Finds memory places n search = Walked memory places n (search .found) (search .place) (search .examined)
 
 step
-    : (memory : List ℕ) (p : ℕ) (places : List ℕ) (n : ℕ) (rest : Look) (test : Bool)
-    → good memory p ≡ test
+    : (memory : List ℕ) (p : ℕ) (places : List ℕ) (n : ℕ) (rest : Search) (test : Bool)
+    → goodPlace memory p ≡ test
     → Finds memory places (n + 1) rest
-    → Finds memory (p ∷ places) n (cond test (record { found = true; place = p; looked = n + 1 }) rest)
+    → Finds memory (p ∷ places) n (cond test (record { found = true; place = p; examined = n + 1 }) rest)
 step memory p places n rest true e w = (0, omega arith, omega arith, refl, e, λ i h. absurd (omega arith))
-step memory p places n rest false e w = more memory p places n (rest .found) (rest .place) (rest .looked) e w
+step memory p places n rest false e w = more memory p places n (rest .found) (rest .place) (rest .examined) e w
 
-walk-finds : (memory : List ℕ) (n : ℕ) (places : List ℕ) → Finds memory places n (walk memory n places)
-unfolding walk
-walk-finds memory n [] = (omega arith, λ i h. absurd (omega arith))
-walk-finds memory n (p ∷ places) =
-    step memory p places n (walk memory (n + 1) places) (good memory p) refl (walk-finds memory (n + 1) places)
+search-finds : (memory : List ℕ) (n : ℕ) (places : List ℕ) → Finds memory places n (searched memory n places)
+unfolding searched
+search-finds memory n [] = (omega arith, λ i h. absurd (omega arith))
+search-finds memory n (p ∷ places) =
+    step memory p places n (searched memory (n + 1) places) (goodPlace memory p) refl (search-finds memory (n + 1) places)
 
 -- The claim's other fields, of a choice with number n.
 record Answered (flash : List ℕ) (n : ℕ) (c : Choice) : Type 0 where
-  number : numberOf (c .answer) ≡ n
+  number : choiceNumber (c .answer) ≡ n
   count : Ranked flash (c .answer)
-  at-most-six : lookedOf (c .answer) ≤ 6
+  at-most-six : examinedOf (c .answer) ≤ 6
 
 internal
-    : (flash : List ℕ) (row : Row) (found : Bool) (place looked : ℕ)
-    → Walked flash flashPlaces 0 found place looked
+    : (flash : List ℕ) (row : Row) (found : Bool) (place examined : ℕ)
+    → Walked flash flashPlaces 0 found place examined
     → Answered flash 0
-    (settled Mode.Internal Entered.FromInternal flash (record { found = found; place = place; looked = looked }) row)
+    (settled Mode.Internal Entered.FromInternal flash (record { found = found; place = place; examined = examined }) row)
 unfolding settled flashPlaces
-internal flash row true place looked w =
-    let rank : w .0 ≡ looked - 1 = omega arith in
+internal flash row true place examined w =
+    let rank : w .0 ≡ examined - 1 = omega arith in
     record {
       number = refl;
       count =
           record {
             from-one = omega arith;
             has-rank = w .3 ∙ ap (λ (k : ℕ). getD flashPlaces k 0) rank;
-            is-good = w .4;
+            is-good-place = w .4;
             none-before = λ i h. w .5 i (omega arith);
           };
       at-most-six = omega arith;
     }
-internal flash row false place looked w = record { number = refl; count = (w .0, w .1); at-most-six = omega arith }
+internal flash row false place examined w = record { number = refl; count = (w .0, w .1); at-most-six = omega arith }
 
 external
-    : (flash memory : List ℕ) (row : Row) (found : Bool) (place looked : ℕ)
-    → Walked memory externalPlaces 0 found place looked
+    : (flash memory : List ℕ) (row : Row) (found : Bool) (place examined : ℕ)
+    → Walked memory externalPlaces 0 found place examined
     → Answered flash 0
-    (settled Mode.External Entered.FromExternal memory (record { found = found; place = place; looked = looked }) row)
+    (settled Mode.External Entered.FromExternal memory (record { found = found; place = place; examined = examined }) row)
 unfolding settled externalPlaces
-external flash memory row true place looked w =
+external flash memory row true place examined w =
     record { number = refl; count = omega arith; at-most-six = omega arith }
-external flash memory row false place looked w =
+external flash memory row false place examined w =
     record { number = refl; count = w .0; at-most-six = omega arith }
 
 chosen-answers : (asked : Asked) (flash shadow memory : List ℕ) → Answered flash 0 (chosen asked flash shadow memory)
 unfolding chosen
-chosen-answers Asked.Internal flash shadow memory = internal flash (rowFor Asked.Internal shadow) _ _ _ (walk-finds flash 0 flashPlaces)
+chosen-answers Asked.Internal flash shadow memory = internal flash (rowFor Asked.Internal shadow) _ _ _ (search-finds flash 0 flashPlaces)
 chosen-answers Asked.External flash shadow memory =
-    external flash memory (rowFor Asked.External shadow) _ _ _ (walk-finds memory 0 externalPlaces)
+    external flash memory (rowFor Asked.External shadow) _ _ _ (search-finds memory 0 externalPlaces)
 chosen-answers Asked.Serial flash shadow memory = record { number = refl; count = refl; at-most-six = omega arith }
 
 -- the choice that the test of the sizes picks

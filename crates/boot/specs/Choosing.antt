@@ -6,13 +6,13 @@ use lib.ListN.{length, replicate}
 use lib.Dec.{leb, eqb}
 use Rattle.octets.specs.Read.{wordAt}
 use Rattle.controls.specs.declared.Asked.{Asked}
-use Rattle.boot.specs.declared.Entered.{Entered}
+use Rattle.configuration.specs.declared.Entered.{Entered}
 use Rattle.boot.specs.declared.Mode.{Mode}
-use Rattle.places.specs.declared.Look.{Look}
+use Rattle.places.specs.declared.Search.{Search}
 use Rattle.controls.specs.declared.Row.{Row}
 use Rattle.boot.specs.declared.Answer.{Answer}
 use Rattle.boot.specs.declared.Choice.{Choice}
-use Rattle.places.specs.Places.{flashPlaces, externalPlaces, walk, watchdogAt, bus16At}
+use Rattle.places.specs.Places.{flashPlaces, externalPlaces, searched, watchdogAt, bus16At}
 use Rattle.controls.specs.Table.{askedBy, rowFor}
 
 -- "BOOTCFG (0 to 3); the flash from address 0 (at most 2,097,152 bytes, any shorter length too); 12 shadow bytes ..; the first 8 bytes
@@ -26,18 +26,18 @@ abbrev pub refusal : Choice
 refusal = record { answer = Answer.Refused; password = replicate 8 0 }
 
 -- from a good place: "the answer carries that place"; "The jump address is the word at place + 4."
-abbrev pub bootFrom : Mode → List ℕ → Look → Row → Choice
-bootFrom mode memory look row =
+abbrev pub bootFrom : Mode → List ℕ → Search → Row → Choice
+bootFrom mode memory search row =
     record {
       answer =
           Answer.Boots
           (record {
             mode = mode;
-            place = look .place;
-            looked = look .looked;
-            jump = wordAt memory (look .place + 4);
-            watchdog = watchdogAt memory (look .place);
-            bus16 = bus16At memory (look .place);
+            place = search .place;
+            examined = search .examined;
+            jump = wordAt memory (search .place + 4);
+            watchdog = watchdogAt memory (search .place);
+            bus16 = bus16At memory (search .place);
             flash = row .flash;
             nexus = row .nexus;
           });
@@ -46,14 +46,14 @@ bootFrom mode memory look row =
 
 -- "In a serial choice the place, jump address and both flags are 0."; "A fallback to serial keeps its row's flash, Nexus and password."
 abbrev pub serialBoot : Entered → ℕ → Row → Choice
-serialBoot entered looked row =
+serialBoot entered examined row =
     record {
       answer =
           Answer.Boots
           (record {
             mode = Mode.Serial entered;
             place = 0;
-            looked = looked;
+            examined = examined;
             jump = 0;
             watchdog = false;
             bus16 = false;
@@ -64,16 +64,16 @@ serialBoot entered looked row =
     }
 
 -- Internal: "With no good place: serial."; External: "bad means serial."
-unfoldable pub settled : Mode → Entered → List ℕ → Look → Row → Choice
-settled mode entered memory look row =
-    cond (look .found) (bootFrom mode memory look row) (serialBoot entered (look .looked) row)
+unfoldable pub settled : Mode → Entered → List ℕ → Search → Row → Choice
+settled mode entered memory search row =
+    cond (search .found) (bootFrom mode memory search row) (serialBoot entered (search .examined) row)
 
 -- Internal, External, and "BOOTCFG 1: serial, count 0"; how serial was entered decides its MMU rows (000, 16.3.2.3.1)
 unfoldable pub chosen : Asked → List ℕ → List ℕ → List ℕ → Choice
 chosen Asked.Internal flash shadow external =
-    settled Mode.Internal Entered.FromInternal flash (walk flash 0 flashPlaces) (rowFor Asked.Internal shadow)
+    settled Mode.Internal Entered.FromInternal flash (searched flash 0 flashPlaces) (rowFor Asked.Internal shadow)
 chosen Asked.External flash shadow external =
-    settled Mode.External Entered.FromExternal external (walk external 0 externalPlaces) (rowFor Asked.External shadow)
+    settled Mode.External Entered.FromExternal external (searched external 0 externalPlaces) (rowFor Asked.External shadow)
 chosen Asked.Serial flash shadow external = serialBoot Entered.Directly 0 (rowFor Asked.Serial shadow)
 
 -- the answer of the call, for every input
@@ -82,11 +82,11 @@ bootChoice bootcfg flash shadow external =
     cond (allowed bootcfg flash shadow external) (chosen (askedBy bootcfg) flash shadow external) refusal
 
 -- the numbers of the answers (01, "What the head says back")
-abbrev pub numberOf : Answer → ℕ
-numberOf Answer.Refused = 9
-numberOf (Answer.Boots boot) = 0
+abbrev pub choiceNumber : Answer → ℕ
+choiceNumber Answer.Refused = 9
+choiceNumber (Answer.Boots boot) = 0
 
--- the number of places looked at, 0 where the call was refused
-abbrev pub lookedOf : Answer → ℕ
-lookedOf Answer.Refused = 0
-lookedOf (Answer.Boots boot) = boot .looked
+-- the number of places examined, 0 where the call was refused
+abbrev pub examinedOf : Answer → ℕ
+examinedOf Answer.Refused = 0
+examinedOf (Answer.Boots boot) = boot .examined

@@ -3,16 +3,10 @@
 ghost use mathlib.Core.Path.{_≡_};
 ghost use Rattle.boot.specs.Choosing.{allowed, bootFrom, serialBoot, settled, chosen};
 ghost use Rattle.boot.specs.Claim.{ChoiceClaim};
+use configuration::Entered;
 use controls::Asked;
 use controls::Row;
-use places::Look;
-
-// How serial boot was entered: by BOOTCFG, or because no good place was found.
-pub enum Entered {
-    Directly,
-    FromInternal,
-    FromExternal,
-}
+use places::Search;
 
 // How the head boots.
 pub enum Mode {
@@ -25,7 +19,7 @@ pub enum Mode {
 pub struct Boot {
     pub mode: Mode,
     pub place: u32,
-    pub looked: u8,
+    pub examined: u8,
     pub jump: u32,
     pub watchdog: bool,
     pub bus16: bool,
@@ -33,7 +27,7 @@ pub struct Boot {
     pub nexus: bool,
 }
 
-// The answer: number 9, or number 0 with the boot (`numberOf` of specs/).
+// The answer: number 9, or number 0 with the boot (`choiceNumber` of specs/).
 pub enum Answer {
     Refused,
     Boots(Boot),
@@ -53,13 +47,13 @@ fn is_allowed(bootcfg: u8, flash: &[u8], shadow: &[u8], external: &[u8]) -> bool
 }
 
 // The choice of a serial boot.
-fn serial_boot(entered: Entered, looked: u8, row: Row) -> Choice
-    ensures { λ r. ⌜ r ≡ serialBoot entered looked row ⌝ }
+fn serial_boot(entered: Entered, examined: u8, row: Row) -> Choice
+    ensures { λ r. ⌜ r ≡ serialBoot entered examined row ⌝ }
 {
     let boot = Boot {
         mode: Mode::Serial(entered),
         place: 0,
-        looked: looked,
+        examined: examined,
         jump: 0,
         watchdog: false,
         bus16: false,
@@ -74,15 +68,15 @@ fn serial_boot(entered: Entered, looked: u8, row: Row) -> Choice
 }
 
 // The choice of a boot from a good place.
-fn boot_from(mode: Mode, memory: &[u8], look: Look, row: Row) -> Choice
-    ensures { λ r. ⌜ r ≡ bootFrom mode (now (memory .entry)) look row ⌝ }
+fn boot_from(mode: Mode, memory: &[u8], search: Search, row: Row) -> Choice
+    ensures { λ r. ⌜ r ≡ bootFrom mode (now (memory .entry)) search row ⌝ }
 {
-    let at = look.place as usize;
+    let at = search.place as usize;
     let first = octets::byte(memory, at);
     let boot = Boot {
         mode: mode,
-        place: look.place,
-        looked: look.looked,
+        place: search.place,
+        examined: search.examined,
         jump: octets::word(memory, at + 4),
         watchdog: first / 4 % 2 == 1,
         bus16: first / 2 % 2 == 1,
@@ -96,14 +90,14 @@ fn boot_from(mode: Mode, memory: &[u8], look: Look, row: Row) -> Choice
     }
 }
 
-// The choice after a walk: a boot from the place found, or serial boot.
-fn settle(mode: Mode, entered: Entered, memory: &[u8], look: Look, row: Row) -> Choice
-    ensures { λ r. ⌜ r ≡ settled mode entered (now (memory .entry)) look row ⌝ }
+// The choice after a search: a boot from the place found, or serial boot.
+fn settle(mode: Mode, entered: Entered, memory: &[u8], search: Search, row: Row) -> Choice
+    ensures { λ r. ⌜ r ≡ settled mode entered (now (memory .entry)) search row ⌝ }
 {
-    if look.found {
-        return boot_from(mode, memory, look, row);
+    if search.found {
+        return boot_from(mode, memory, search, row);
     }
-    serial_boot(entered, look.looked, row)
+    serial_boot(entered, search.examined, row)
 }
 
 // How the head boots, once the sizes are allowed.
@@ -124,7 +118,7 @@ fn chosen_for(asked: Asked, flash: &[u8], shadow: &[u8], external: &[u8]) -> Cho
             Mode::External,
             Entered::FromExternal,
             external,
-            places::look_at_external(external),
+            places::examine_external(external),
             row,
         ),
     }

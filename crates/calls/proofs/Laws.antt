@@ -1,4 +1,4 @@
--- What follows where nothing is due, and what an item leaves.
+-- What follows where the precheck has passed, and what an item leaves.
 use Prim.Native.Nat.{ℕ}
 use native.Mathlib.Omega.{arith}
 use mathlib.Core.Path.{_≡_, refl, ap, _∙_}
@@ -7,37 +7,39 @@ use mathlib.Core.Bool.{Bool, true, false, cond}
 use borrow.Author.Tests.{eqb-true}
 use lib.Dec.{eqb}
 use lib.ListN.{length}
-use Rattle.answers.specs.declared.Due.{Due}
-use Rattle.answers.specs.declared.Reply.{Reply}
-use Rattle.answers.specs.Answers.{After, asAfter, firstDue}
-use Rattle.answers.proofs.Laws.{nothing-due, fault-some}
+use Rattle.answers.specs.declared.Prechecked.{Prechecked}
+use Rattle.answers.specs.declared.StepResult.{StepResult}
+use Rattle.answers.specs.Answers.{Result, resultOf, precheck}
+use Rattle.answers.proofs.Laws.{precheck-passed, fault-some}
+use Rattle.numbers.specs.Writing.{answerWidth}
+use Rattle.encoding.specs.Writing.{sessionWidth}
 use Rattle.encoding.specs.Reading.{sessionIn}
 use Rattle.encoding.proofs.Lengths.{sound-length}
-use Rattle.calls.specs.Crossing.{asReply, leaves, dueNumber, itemDue}
+use Rattle.calls.specs.Crossing.{asReply, leaves, precheckNumber, itemPrecheck}
 
--- numbers of a session for which nothing is due
-pub due-length : (session sram : List ℕ) (formed : Bool) → firstDue (sessionIn session) sram formed ≡ Due.Nothing → length session ≡ 24
-due-length session sram formed e = sound-length session (nothing-due (sessionIn session) sram formed e .0 .fine)
+-- numbers of a session that passes the precheck
+pub passed-length : (session sram : List ℕ) (formed : Bool) → precheck (sessionIn session) sram formed ≡ Prechecked.Passed → length session ≡ sessionWidth
+passed-length session sram formed e = sound-length session (precheck-passed (sessionIn session) sram formed e .0 .fine)
 
--- an item for which nothing is due has room for its session and its answer
-pub item-room : (session sram : List ℕ) (formed : Bool) (room : ℕ) → itemDue (sessionIn session) sram formed room ≡ 0
-    → (length session ≡ 24) × (room ≡ 13)
-unfolding itemDue
-item-room session sram formed room e = by (firstDue (sessionIn session) sram formed) refl e
+-- an item that passes the precheck has room for its session and its answer
+pub item-room : (session sram : List ℕ) (formed : Bool) (room : ℕ) → itemPrecheck (sessionIn session) sram formed room ≡ 0
+    → (length session ≡ sessionWidth) × (room ≡ answerWidth)
+unfolding itemPrecheck
+item-room session sram formed room e = by (precheck (sessionIn session) sram formed) refl e
   where
     nine : (b : Bool) → _≡_ {A = ℕ} (cond b 0 9) 0 → b ≡ true
     nine true e = refl
     nine false e = absurd (omega arith)
 
-    by : (due : Due) → firstDue (sessionIn session) sram formed ≡ due → dueNumber due room ≡ 0
-        → (length session ≡ 24) × (room ≡ 13)
-    by Due.Nothing none e = (due-length session sram formed none, eqb-true room 13 (nine (eqb room 13) e))
-    by (Due.Refused fault) is-due e = absurd (fault-some fault e)
+    by : (first : Prechecked) → precheck (sessionIn session) sram formed ≡ first → precheckNumber first room ≡ 0
+        → (length session ≡ sessionWidth) × (room ≡ answerWidth)
+    by Prechecked.Passed none e = (passed-length session sram formed none, eqb-true room answerWidth (nine (eqb room answerWidth) e))
+    by (Prechecked.Refused fault) refused e = absurd (fault-some fault e)
 
--- what an item leaves, from what is written of its reply and what it leaves of SRAM
-pub reply-leaves : (reply : Reply) (number : ℕ) (session sram answer : List ℕ) (next : After)
-    → asReply number session [] answer ≡ leaves (asAfter reply [])
-    → asAfter reply sram ≡ next
+-- what an item leaves, from what is written of its result and what it leaves of SRAM
+pub result-leaves : (result : StepResult) (number : ℕ) (session sram answer : List ℕ) (next : Result)
+    → asReply number session [] answer ≡ leaves (resultOf result [])
+    → resultOf result sram ≡ next
     → asReply number session sram answer ≡ leaves next
-reply-leaves reply number session sram answer next e f =
+result-leaves result number session sram answer next e f =
     ap (λ r. asReply (r .number) (r .session) sram (r .answer)) e ∙ ap leaves f

@@ -5,12 +5,12 @@ use mathlib.Core.Bool.{Bool, cond}
 use lib.Dec.{eqb}
 use lib.ListN.{length}
 use Rattle.stages.specs.declared.Session.{Session}
-use Rattle.answers.specs.declared.Due.{Due}
-use Rattle.answers.specs.Answers.{After, faultNumber, firstDue}
+use Rattle.answers.specs.declared.Prechecked.{Prechecked}
+use Rattle.answers.specs.Answers.{Result, faultNumber, precheck}
 use Rattle.items.specs.Items.{Item, wellFormed}
-use Rattle.rules.specs.Rules.{after}
+use Rattle.rules.specs.Rules.{step}
 use Rattle.encoding.specs.Writing.{sessionNumbers}
-use Rattle.numbers.specs.Writing.{answerNumbers}
+use Rattle.numbers.specs.Writing.{answerWidth, answerNumbers}
 use Rattle.encoding.specs.Reading.{sessionIn}
 
 -- a call: its number, and the numbers of the session, SRAM and the numbers of the answer or the answers as it leaves them
@@ -23,24 +23,24 @@ pub record Reply : Type 0 where
 abbrev pub asReply : ℕ → List ℕ → List ℕ → List ℕ → Reply
 asReply number session sram answer = record { number = number; session = session; sram = sram; answer = answer }
 
--- 7, then 8, then 6 for what is handed in, and then 9 for an answer that has not 13 places; or 0
-abbrev pub dueNumber : Due → ℕ → ℕ
-dueNumber Due.Nothing room = cond (eqb room 13) 0 9
-dueNumber (Due.Refused fault) room = faultNumber fault
+-- 7, then 8, then 6 for what is handed in, and then 9 for an answer that has not its places; or 0
+abbrev pub precheckNumber : Prechecked → ℕ → ℕ
+precheckNumber Prechecked.Passed room = cond (eqb room answerWidth) 0 9
+precheckNumber (Prechecked.Refused fault) room = faultNumber fault
 
-unfoldable pub itemDue : Session → List ℕ → Bool → ℕ → ℕ
-itemDue session sram formed room = dueNumber (firstDue session sram formed) room
+unfoldable pub itemPrecheck : Session → List ℕ → Bool → ℕ → ℕ
+itemPrecheck session sram formed room = precheckNumber (precheck session sram formed) room
 
 -- what an item leaves
-abbrev pub leaves : After → Reply
+abbrev pub leaves : Result → Reply
 leaves next =
     asReply (next .number) (sessionNumbers (next .session)) (next .sram) (answerNumbers (next .answer))
 
 -- one item, with the session that the numbers are; a call that is refused so changes nothing
 abbrev pub itemLeaves : ℕ → List ℕ → List ℕ → Item → List ℕ → Reply
-itemLeaves due session sram item answer =
-    cond (eqb due 0) (leaves (after (sessionIn session) sram item)) (asReply due session sram answer)
+itemLeaves first session sram item answer =
+    cond (eqb first 0) (leaves (step (sessionIn session) sram item)) (asReply first session sram answer)
 
 unfoldable pub itemReply : List ℕ → List ℕ → Item → List ℕ → Reply
 itemReply session sram item answer =
-    itemLeaves (itemDue (sessionIn session) sram (wellFormed item) (length answer)) session sram item answer
+    itemLeaves (itemPrecheck (sessionIn session) sram (wellFormed item) (length answer)) session sram item answer

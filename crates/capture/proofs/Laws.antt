@@ -9,7 +9,7 @@ use lib.Dec.{leb, eqb}
 use lib.ListN.{length, take, drop, length-drop}
 use lib.Seq.{take-all, length-take-le}
 use Rattle.capture.specs.declared.RecordHeader.{RecordHeader}
-use Rattle.capture.specs.Records.{lengthOf, versionOf, kindOf, identifierOf, fitsKind, fitsCan, good, headerOf, Read, refused, ended, answered, found, reads, bodyAt, beyond}
+use Rattle.capture.specs.Records.{lengthOf, versionOf, kindOf, identifierOf, fitsKind, fitsCan, goodRecord, headerFound, Read, refused, ended, answered, found, reads, bodyAt, beyond}
 
 -- a record that keeps the rules is 4 to 14 bytes long, and all of it is there
 pub kind-length : (kind l : ℕ) → fitsKind kind l ≡ true → (2 ≤ l) × (l ≤ 12)
@@ -44,9 +44,9 @@ kind-length kind l e =
     of-length : (n : ℕ) → eqb l n ≡ true → 2 ≤ n → n ≤ 12 → (2 ≤ l) × (l ≤ 12)
     of-length n t low high = let h = eqb-true l n t in (omega (arith, h), omega (arith, h))
 
-pub good-length : (bytes : List ℕ) → good bytes ≡ true
+pub good-length : (bytes : List ℕ) → goodRecord bytes ≡ true
     → (2 ≤ lengthOf bytes) × (lengthOf bytes ≤ 12) × (2 + lengthOf bytes ≤ length bytes)
-unfolding good
+unfolding goodRecord
 good-length bytes e =
     let whole = leb (2 + lengthOf bytes) (length bytes) in
     let version = eqb (versionOf bytes) 1 in
@@ -57,10 +57,10 @@ good-length bytes e =
     (h .0, h .1, leb-true (2 + lengthOf bytes) (length bytes) (and-eq-true-iff whole version .0 (b .0) .0))
 
 -- what a good header says: the body and the four bytes before it are there
-header-good : (bytes : List ℕ) (kind size : ℕ) → headerOf bytes ≡ RecordHeader.Good kind size
-    → (good bytes ≡ true) × (size ≡ lengthOf bytes - 2)
-unfolding headerOf
-header-good bytes kind size e = by-test (good bytes) refl e
+header-good : (bytes : List ℕ) (kind size : ℕ) → headerFound bytes ≡ RecordHeader.Good kind size
+    → (goodRecord bytes ≡ true) × (size ≡ lengthOf bytes - 2)
+unfolding headerFound
+header-good bytes kind size e = by-test (goodRecord bytes) refl e
   where
     sizeIn : RecordHeader → ℕ
     sizeIn (RecordHeader.Good kind size) = size
@@ -72,13 +72,13 @@ header-good bytes kind size e = by-test (good bytes) refl e
 
     by-test
         : (t : Bool)
-        → good bytes ≡ t
+        → goodRecord bytes ≡ t
         → cond t (RecordHeader.Good (kindOf bytes) (lengthOf bytes - 2)) RecordHeader.Bad ≡ RecordHeader.Good kind size
-        → (good bytes ≡ true) × (size ≡ lengthOf bytes - 2)
+        → (goodRecord bytes ≡ true) × (size ≡ lengthOf bytes - 2)
     by-test true g e = (g, sym (ap sizeIn e))
     by-test false g e = absurd (false≢true (ap isGood e))
 
-pub header-room : (bytes : List ℕ) (kind size : ℕ) → headerOf bytes ≡ RecordHeader.Good kind size
+pub header-room : (bytes : List ℕ) (kind size : ℕ) → headerFound bytes ≡ RecordHeader.Good kind size
     → (4 + size ≤ length bytes) × (size ≤ 10)
 header-room bytes kind size e =
     let h = header-good bytes kind size e in
@@ -91,11 +91,11 @@ module _ (at : ℕ) where
   found-end [] e = refl
   found-end (first ∷ rest) e = absurd (omega arith)
 
-  found-bad : (bytes : List ℕ) → 0 < length bytes → headerOf bytes ≡ RecordHeader.Bad → found at bytes ≡ refused at
+  found-bad : (bytes : List ℕ) → 0 < length bytes → headerFound bytes ≡ RecordHeader.Bad → found at bytes ≡ refused at
   found-bad [] h e = absurd (omega arith)
   found-bad (first ∷ rest) h e = rw e
 
-  pub found-good : (bytes : List ℕ) (kind size : ℕ) → headerOf bytes ≡ RecordHeader.Good kind size
+  pub found-good : (bytes : List ℕ) (kind size : ℕ) → headerFound bytes ≡ RecordHeader.Good kind size
       → found at bytes ≡ answered (RecordHeader.Good kind size) at bytes
   found-good [] kind size e = absurd (omega (arith, header-room [] kind size e .0))
   found-good (first ∷ rest) kind size e = rw e
@@ -131,16 +131,16 @@ module _ (capture : List ℕ) (at : ℕ) where
   at-end h none =
       within (ended at) at h (found-end at (drop at capture) (ap length (sym lent-whole) ∙ none)) (omega arith)
 
-  pub at-bad : at ≤ length capture → 0 < length lent → headerOf lent ≡ RecordHeader.Bad → Answers (refused at) at
+  pub at-bad : at ≤ length capture → 0 < length lent → headerFound lent ≡ RecordHeader.Bad → Answers (refused at) at
   at-bad h some e =
       within
       (refused at)
       at
       h
-      (found-bad at (drop at capture) (omega (arith, ap length lent-whole)) (ap headerOf (sym lent-whole) ∙ e))
+      (found-bad at (drop at capture) (omega (arith, ap length lent-whole)) (ap headerFound (sym lent-whole) ∙ e))
       (omega arith)
 
-  pub at-good : (kind size : ℕ) → at ≤ length capture → headerOf lent ≡ RecordHeader.Good kind size
+  pub at-good : (kind size : ℕ) → at ≤ length capture → headerFound lent ≡ RecordHeader.Good kind size
       → Answers (answered (RecordHeader.Good kind size) at lent) (at + 4)
   at-good kind size h e =
       let room = header-room lent kind size e .0 in
@@ -166,11 +166,11 @@ reads-first bytes = rw (le-leb 0 (length bytes) (omega arith))
 pub found-next : (at : ℕ) (bytes : List ℕ) → found at bytes .number ≡ 0 → (found at bytes .kind ≡ 0 → ⊥)
     → (at + 4 ≤ found at bytes .next) × (found at bytes .next ≤ at + length bytes)
 found-next at [] e h = absurd (h refl)
-found-next at (b ∷ bytes) e h = by-header (headerOf (b ∷ bytes)) refl e
+found-next at (b ∷ bytes) e h = by-header (headerFound (b ∷ bytes)) refl e
   where
     by-header
         : (header : RecordHeader)
-        → headerOf (b ∷ bytes) ≡ header
+        → headerFound (b ∷ bytes) ≡ header
         → answered header at (b ∷ bytes) .number ≡ 0
         → (at + 4 ≤ answered header at (b ∷ bytes) .next) × (answered header at (b ∷ bytes) .next ≤ at + length (b ∷ bytes))
     by-header RecordHeader.Bad told e = absurd (omega (arith, e))

@@ -10,7 +10,7 @@ use lib.ListN.{length, take, drop}
 use lib.Seq.{take-all, take-take, take-add, drop-at, length-take-le, getD-take}
 use Rattle.octets.specs.Read.{halfAt}
 use Rattle.capture.specs.declared.RecordHeader.{RecordHeader}
-use Rattle.capture.specs.Records.{lengthOf, versionOf, kindOf, identifierOf, fitsKind, fitsCan, good, headerOf, answered, found, reads}
+use Rattle.capture.specs.Records.{lengthOf, versionOf, kindOf, identifierOf, fitsKind, fitsCan, goodRecord, headerFound, answered, found, reads}
 use Rattle.capture.proofs.Laws.{kind-length, header-room}
 
 -- the bytes, and the first 14 of them
@@ -32,8 +32,8 @@ module _ (bytes : List ℕ) where
           le-leb (2 + l) (length first) (omega (arith, length-take-le 14 bytes (omega arith)))
           ∙ sym (le-leb (2 + l) (length bytes) (omega arith))
 
-  good-same : good first ≡ good bytes
-  unfolding good
+  good-same : goodRecord first ≡ goodRecord bytes
+  unfolding goodRecord
   good-same =
       rw (half-same 0 (omega arith), getD-take 14 bytes 2 0 (omega arith), getD-take 14 bytes 3 0 (omega arith), half-same 4 (omega arith))
       (by-test (fitsKind (kindOf bytes) (lengthOf bytes)) refl)
@@ -44,8 +44,8 @@ module _ (bytes : List ℕ) where
       by-test true e = rw (whole-same (lengthOf bytes) (kind-length (kindOf bytes) (lengthOf bytes) e .1))
       by-test false e = rw (and-false (leb (2 + lengthOf bytes) (length first) && eqb (versionOf bytes) 1), and-false (leb (2 + lengthOf bytes) (length bytes) && eqb (versionOf bytes) 1))
 
-  header-same : headerOf first ≡ headerOf bytes
-  unfolding headerOf
+  header-same : headerFound first ≡ headerFound bytes
+  unfolding headerFound
   header-same = rw (good-same, half-same 0 (omega arith), getD-take 14 bytes 3 0 (omega arith))
 
   body-same : (size : ℕ) → 4 + size ≤ length bytes → size ≤ 10 → take size (drop 4 first) ≡ take size (drop 4 bytes)
@@ -54,10 +54,10 @@ module _ (bytes : List ℕ) where
       (ap (drop 4) (take-add 4 10 bytes) ∙ drop-at (take 4 bytes) (take 10 (drop 4 bytes)) 4 (length-take-le 4 bytes (omega arith)))
       ∙ take-take size 10 (drop 4 bytes) k
 
-  answered-same : (at : ℕ) → answered (headerOf first) at first ≡ answered (headerOf bytes) at bytes
-  answered-same at = rw header-same (by-header (headerOf bytes) refl)
+  answered-same : (at : ℕ) → answered (headerFound first) at first ≡ answered (headerFound bytes) at bytes
+  answered-same at = rw header-same (by-header (headerFound bytes) refl)
     where
-      by-header : (header : RecordHeader) → headerOf bytes ≡ header → answered header at first ≡ answered header at bytes
+      by-header : (header : RecordHeader) → headerFound bytes ≡ header → answered header at first ≡ answered header at bytes
       by-header RecordHeader.Bad e = refl
       by-header (RecordHeader.Good kind size) e =
           let room = header-room bytes kind size e in

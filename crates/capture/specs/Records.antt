@@ -33,17 +33,17 @@ abbrev pub fitsCan : ℕ → ℕ → Bool
 fitsCan kind identifier = not (eqb kind 1) || leb identifier 2047
 
 -- the bytes begin with a record that is whole and keeps these rules
-unfoldable pub good : List ℕ → Bool
-good bytes =
+unfoldable pub goodRecord : List ℕ → Bool
+goodRecord bytes =
     leb (2 + lengthOf bytes) (length bytes)
     && eqb (versionOf bytes) 1
     && fitsKind (kindOf bytes) (lengthOf bytes)
     && fitsCan (kindOf bytes) (identifierOf bytes)
 
 -- its kind, and how many bytes its body has
-unfoldable pub headerOf : List ℕ → RecordHeader
-headerOf bytes =
-    cond (good bytes) (RecordHeader.Good (kindOf bytes) (lengthOf bytes - 2)) RecordHeader.Bad
+unfoldable pub headerFound : List ℕ → RecordHeader
+headerFound bytes =
+    cond (goodRecord bytes) (RecordHeader.Good (kindOf bytes) (lengthOf bytes - 2)) RecordHeader.Bad
 
 -- The reader's answer: the number; the kind, or 0 as the end mark; where the next record starts; the body.
 pub record Read : Type 0 where
@@ -69,7 +69,7 @@ answered (RecordHeader.Good kind size) at bytes =
 -- what stands at a place, of which these are the capture's bytes from there on
 abbrev pub found : ℕ → List ℕ → Read
 found at [] = ended at
-found at (first ∷ rest) = answered (headerOf (first ∷ rest)) at (first ∷ rest)
+found at (first ∷ rest) = answered (headerFound (first ∷ rest)) at (first ∷ rest)
 
 -- "as does a starting place past the end"
 unfoldable pub reads : List ℕ → ℕ → Read

@@ -1,7 +1,7 @@
 // The reader of the truck's capture file (01, "The truck's capture file").
 ghost use mathlib.Core.Path.{_≡_};
 ghost use denote.Ref.{ptr};
-ghost use Rattle.capture.specs.Records.{fitsKind, fitsCan, good, headerOf, reads, bodyAt, beyond, asRead};
+ghost use Rattle.capture.specs.Records.{fitsKind, fitsCan, goodRecord, headerFound, reads, bodyAt, beyond, asRead};
 ghost use Rattle.capture.specs.Located.{locatedAt, asLocated};
 
 // The header of a record: its kind and its body's length, or one that is not whole or breaks the rules.
@@ -27,8 +27,8 @@ fn fits_can(kind: u8, identifier: u16) -> bool
 }
 
 // Whether the bytes begin with a record that is whole and keeps the rules.
-fn is_good(bytes: &[u8]) -> bool
-    ensures { λ r. ⌜ r ≡ good (now (bytes .entry)) ⌝ }
+fn is_good_record(bytes: &[u8]) -> bool
+    ensures { λ r. ⌜ r ≡ goodRecord (now (bytes .entry)) ⌝ }
 {
     let length = octets::half(bytes, 0);
     let kind = octets::byte(bytes, 3);
@@ -39,10 +39,10 @@ fn is_good(bytes: &[u8]) -> bool
 }
 
 // The header of the record with which the bytes begin.
-fn header_of(bytes: &[u8]) -> RecordHeader
-    ensures { λ r. ⌜ r ≡ headerOf (now (bytes .entry)) ⌝ }
+fn find_header(bytes: &[u8]) -> RecordHeader
+    ensures { λ r. ⌜ r ≡ headerFound (now (bytes .entry)) ⌝ }
 {
-    if is_good(bytes) {
+    if is_good_record(bytes) {
         let length = octets::half(bytes, 0);
         let kind = octets::byte(bytes, 3);
         return RecordHeader::Good(kind, octets::difference(length as usize, 2));
@@ -72,7 +72,7 @@ pub fn read<'a>(
         *number = 0;
         return &bytes[0..0];
     }
-    let RecordHeader::Good(found, size) = header_of(bytes) else {
+    let RecordHeader::Good(found, size) = find_header(bytes) else {
         *number = 10;
         return &bytes[0..0];
     };

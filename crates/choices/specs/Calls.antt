@@ -6,7 +6,7 @@ use lib.ListN.{length}
 use lib.Dec.{eqb}
 use Rattle.boot.specs.declared.Answer.{Answer}
 use Rattle.boot.specs.declared.Choice.{Choice}
-use Rattle.boot.specs.Choosing.{bootChoice, numberOf}
+use Rattle.boot.specs.Choosing.{bootChoice, choiceNumber}
 use Rattle.choices.specs.Numbers.{bootNumbers}
 
 -- a call as C sees it: its number, and the outputs as it leaves them
@@ -29,7 +29,7 @@ passwordAfter (Answer.Boots boot) selected password = selected
 
 abbrev pub choiceLeaves : Choice → List ℕ → List ℕ → ChoiceReply
 choiceLeaves choice fields password =
-    asChoiceReply (numberOf (choice .answer)) (fieldsAfter (choice .answer) fields)
+    asChoiceReply (choiceNumber (choice .answer)) (fieldsAfter (choice .answer) fields)
     (passwordAfter (choice .answer) (choice .password) password)
 
 -- 8 numbers and 8 password bytes are written; outputs of another length get number 9

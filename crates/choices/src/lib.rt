@@ -6,7 +6,6 @@ ghost use Rattle.choices.specs.Calls.{asChoiceReply, choiceLeaves, choic
 use boot::Answer;
 use boot::Boot;
 use boot::Choice;
-use boot::Entered;
 use boot::Mode;
 
 // The number of a way to boot, which `mode_of` reads as that way.
@@ -16,11 +15,7 @@ fn mode_number(mode: Mode) -> u32
     match mode {
         Mode::Internal => 0,
         Mode::External => 1,
-        Mode::Serial(entered) => match entered {
-            Entered::Directly => 2,
-            Entered::FromInternal => 3,
-            Entered::FromExternal => 4,
-        },
+        Mode::Serial(entered) => numbers::entered_number(entered),
     }
 }
 
@@ -31,9 +26,7 @@ pub fn mode_of(number: u8) -> Mode
     match number {
         0 => Mode::Internal,
         1 => Mode::External,
-        2 => Mode::Serial(Entered::Directly),
-        3 => Mode::Serial(Entered::FromInternal),
-        _ => Mode::Serial(Entered::FromExternal),
+        _ => Mode::Serial(numbers::entered_of(number as u32)),
     }
 }
 
@@ -45,7 +38,7 @@ fn boot_numbers(boot: Boot) -> [u32; 8]
     [
         mode_number(mode),
         boot.place,
-        boot.looked as u32,
+        boot.examined as u32,
         boot.jump,
         numbers::flag(boot.watchdog),
         numbers::flag(boot.bus16),

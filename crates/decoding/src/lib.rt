@@ -2,7 +2,9 @@
 ghost use mathlib.Core.Path.{_≡_};
 ghost use Prim.Native.Nat.{_≤_};
 ghost use Rattle.octets.specs.Same.{same};
-ghost use Rattle.encoding.specs.Reading.{numberAt, byteIn, eightIn, portRead, loadRead, refusalRead, jumpRead, stageRead, sessionRead, unsoundSession, sessionIn};
+ghost use Rattle.encoding.specs.Reading.{numberAt, byteIn, eightIn, portRead, loadRead, refusalRead, jumpRead, stageRead, configurationRead, sessionRead, unsoundSession, sessionIn};
+use configuration::Configuration;
+use encoding::SESSION_WIDTH;
 use sram::Aligned;
 use stages::Jump;
 use stages::Load;
@@ -101,29 +103,39 @@ fn read_stage(numbers: &[u32]) -> Stage
     }
 }
 
+// The configuration.
+fn read_configuration(numbers: &[u32]) -> Configuration
+    ensures { λ r. ⌜ r ≡ configurationRead (now (numbers .entry)) ⌝ }
+{
+    let password = eight_in(numbers, 0);
+    Configuration {
+        password: password,
+        entered: numbers::entered_of(number_at(numbers, 24)),
+    }
+}
+
 // The session that numbers read as.
 fn decode(numbers: &[u32]) -> Session
     ensures { λ r. ⌜ r ≡ sessionRead (now (numbers .entry)) ⌝ }
 {
-    let selected = eight_in(numbers, 0);
     let held = eight_in(numbers, 11);
     Session {
-        selected: selected,
+        configuration: read_configuration(numbers),
         stage: read_stage(numbers),
         held: held,
         count: byte_in(numbers, 10),
     }
 }
 
-// Whether 24 numbers are the same.
-fn is_same(a: [u32; 24], b: &[u32]) -> bool
+// Whether a session's numbers are those of a list.
+fn is_same(a: [u32; SESSION_WIDTH], b: &[u32]) -> bool
     ensures { λ r. ⌜ r ≡ same a (now (b .entry)) ⌝ }
 {
-    if b.len() != 24 {
+    if b.len() != SESSION_WIDTH {
         return false;
     }
     let mut i: usize = 0;
-    while i < 24 {
+    while i < SESSION_WIDTH {
         if a[i] != b[i] {
             return false;
         }
@@ -132,12 +144,12 @@ fn is_same(a: [u32; 24], b: &[u32]) -> bool
     true
 }
 
-// A session that is not sound: waiting, with a byte held.
-fn unsound() -> Session
-    ensures { λ r. ⌜ r ≡ unsoundSession ⌝ }
+// A session that is not sound: waiting, with a byte held, in the configuration of the numbers.
+fn unsound(numbers: &[u32]) -> Session
+    ensures { λ r. ⌜ r ≡ unsoundSession (now (numbers .entry)) ⌝ }
 {
     Session {
-        selected: [0; 8],
+        configuration: read_configuration(numbers),
         stage: Stage::Waiting,
         held: [0; 8],
         count: 1,
@@ -152,5 +164,5 @@ pub fn read_session(numbers: &[u32]) -> Session
     if is_same(encoding::session_numbers(read), numbers) {
         return read;
     }
-    unsound()
+    unsound(numbers)
 }

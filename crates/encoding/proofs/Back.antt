@@ -12,13 +12,15 @@ use mir.Syntax.{w8}
 use mir.Val.{Fits}
 use Rattle.octets.specs.Same.{same}
 use Rattle.octets.proofs.Comparing.{same-own}
+use Rattle.configuration.specs.declared.Configuration.{Configuration}
 use Rattle.stages.specs.declared.Port.{Port}
 use Rattle.stages.specs.declared.Refusal.{Refusal}
 use Rattle.stages.specs.declared.Session.{Session}
 use Rattle.stages.specs.declared.Stage.{Stage}
-use Rattle.numbers.specs.Writing.{bit}
+use Rattle.numbers.specs.Writing.{bit, enteredNumber, enteredOf}
+use Rattle.numbers.proofs.Whole.{entered-back}
 use Rattle.encoding.specs.Writing.{sessionNumbers}
-use Rattle.encoding.specs.Reading.{eightIn, portRead, refusalRead, stageRead, sessionRead, encodes, sessionIn, Encoding}
+use Rattle.encoding.specs.Reading.{numberAt, eightIn, portRead, refusalRead, stageRead, sessionRead, encodes, sessionIn, Encoding}
 
 -- numbers of which each is a byte
 abbrev Bytes : List ℕ → Type 0
@@ -55,38 +57,52 @@ flag-back true = refl
 flag-back false = refl
 
 -- the numbers of a session at a stage
-abbrev numbersAt : List ℕ → List ℕ → ℕ → Stage → List ℕ
-numbersAt selected held count stage =
-    sessionNumbers record { selected = selected; stage = stage; held = held; count = count }
+abbrev numbersAt : Configuration → List ℕ → ℕ → Stage → List ℕ
+numbersAt configuration held count stage =
+    sessionNumbers record { configuration = configuration; stage = stage; held = held; count = count }
 
 stage-back
-    : (selected held : List ℕ) (count : ℕ) (stage : Stage) → stageRead (numbersAt selected held count stage) ≡ stage
+    : (configuration : Configuration) (held : List ℕ) (count : ℕ) (stage : Stage) → stageRead (numbersAt configuration held count stage) ≡ stage
 unfolding stageRead portRead refusalRead
-stage-back selected held count Stage.Waiting = refl
-stage-back selected held count Stage.Password = refl
-stage-back selected held count (Stage.Header Port.Can) = refl
-stage-back selected held count (Stage.Header Port.Serial) = refl
-stage-back selected held count (Stage.Data Port.Can load) = rw (flag-back (load .vle))
-stage-back selected held count (Stage.Data Port.Serial load) = rw (flag-back (load .vle))
-stage-back selected held count (Stage.Stopped Refusal.Password) = refl
-stage-back selected held count (Stage.Stopped Refusal.Length) = refl
-stage-back selected held count (Stage.Stopped Refusal.Range) = refl
-stage-back selected held count (Stage.Jumped jump) = rw (flag-back (jump .vle))
+stage-back configuration held count Stage.Waiting = refl
+stage-back configuration held count Stage.Password = refl
+stage-back configuration held count (Stage.Header Port.Can) = refl
+stage-back configuration held count (Stage.Header Port.Serial) = refl
+stage-back configuration held count (Stage.Data Port.Can load) = rw (flag-back (load .vle))
+stage-back configuration held count (Stage.Data Port.Serial load) = rw (flag-back (load .vle))
+stage-back configuration held count (Stage.Stopped Refusal.Password) = refl
+stage-back configuration held count (Stage.Stopped Refusal.Length) = refl
+stage-back configuration held count (Stage.Stopped Refusal.Range) = refl
+stage-back configuration held count (Stage.Jumped jump) = rw (flag-back (jump .vle))
 
-session-back
-    : (s : Session)
-    → length (s .selected) ≡ 8
-    → Bytes (s .selected)
-    → length (s .held) ≡ 8
-    → Bytes (s .held)
-    → Fits w8 (s .count)
-    → sessionRead (sessionNumbers s) ≡ s
-session-back s eight selected eight′ held count =
+-- what a session's memory holds
+pub record Stored (s : Session) : Type 0 where
+  pub password-eight : length (s .configuration .password) ≡ 8
+  pub password-bytes : Bytes (s .configuration .password)
+  pub held-eight : length (s .held) ≡ 8
+  pub held-bytes : Bytes (s .held)
+  pub count-byte : Fits w8 (s .count)
+
+-- the number behind a stage's own
+entered-at : (s : Session) (stage : Stage)
+    → numberAt (numbersAt (s .configuration) (s .held) (s .count) stage) 24 ≡ enteredNumber (s .configuration .entered)
+entered-at s Stage.Waiting = refl
+entered-at s Stage.Password = refl
+entered-at s (Stage.Header port) = refl
+entered-at s (Stage.Data port load) = refl
+entered-at s (Stage.Stopped refusal) = refl
+entered-at s (Stage.Jumped jump) = refl
+
+session-back : (s : Session) → Stored s → sessionRead (sessionNumbers s) ≡ s
+session-back s m =
     λ i. record {
-      selected = eight-back (s .selected) eight selected i;
-      stage = stage-back (s .selected) (s .held) (s .count) (s .stage) i;
-      held = eight-back (s .held) eight′ held i;
-      count = mod-eq-of-lt (count .fits) i;
+      configuration = record {
+        password = eight-back (s .configuration .password) (m .password-eight) (m .password-bytes) i;
+        entered = (ap enteredOf (entered-at s (s .stage)) ∙ entered-back (s .configuration .entered)) i;
+      };
+      stage = stage-back (s .configuration) (s .held) (s .count) (s .stage) i;
+      held = eight-back (s .held) (m .held-eight) (m .held-bytes) i;
+      count = mod-eq-of-lt (m .count-byte .fits) i;
     }
 
 -- numbers that are those of the session that they read as stand for it
@@ -97,16 +113,6 @@ read-back s r e f =
     ap (λ w. same w r) (ap sessionNumbers f ∙ sym e) ∙ same-own r in
     rw own f
 
--- so the numbers of a session of eight bytes each are what `session_numbers` promises
-pub encoding
-    : (s : Session) {r : List ℕ}
-    → r ≡ sessionNumbers s
-    → length (s .selected) ≡ 8
-    → Bytes (s .selected)
-    → length (s .held) ≡ 8
-    → Bytes (s .held)
-    → Fits w8 (s .count)
-    → Encoding s r
-encoding s e eight selected eight′ held count =
-    let read = ap sessionRead e ∙ session-back s eight selected eight′ held count in
-    record { equation = e; reads-back = read-back s _ e read }
+-- so the numbers of a session are what `session_numbers` promises
+pub encoding : (s : Session) {r : List ℕ} → r ≡ sessionNumbers s → Stored s → Encoding s r
+encoding s e m = record { equation = e; reads-back = read-back s _ e (ap sessionRead e ∙ session-back s m) }

@@ -6,12 +6,14 @@ use mathlib.Core.Bool.{Bool, cond}
 use lib.Dec.{eqb}
 use lib.ListN.{getD, replicate}
 use Rattle.octets.specs.Same.{same}
+use Rattle.configuration.specs.declared.Configuration.{Configuration}
 use Rattle.stages.specs.declared.Jump.{Jump}
 use Rattle.stages.specs.declared.Load.{Load}
 use Rattle.stages.specs.declared.Port.{Port}
 use Rattle.stages.specs.declared.Refusal.{Refusal}
 use Rattle.stages.specs.declared.Session.{Session}
 use Rattle.stages.specs.declared.Stage.{Stage}
+use Rattle.numbers.specs.Writing.{enteredOf}
 use Rattle.encoding.specs.Writing.{sessionNumbers}
 
 -- the number at a place, and as a byte
@@ -62,25 +64,29 @@ stageRead numbers =
     (cond (eqb (numberAt numbers 8) 4) (Stage.Stopped (refusalRead numbers))
     (Stage.Jumped (jumpRead numbers))))))
 
+abbrev pub configurationRead : List ℕ → Configuration
+configurationRead numbers = record { password = eightIn numbers 0; entered = enteredOf (numberAt numbers 24) }
+
 abbrev pub sessionRead : List ℕ → Session
 sessionRead numbers =
     record {
-      selected = eightIn numbers 0;
+      configuration = configurationRead numbers;
       stage = stageRead numbers;
       held = eightIn numbers 11;
       count = byteIn numbers 10;
     }
 
--- numbers that are those of the session that they read as
+-- writing the session that they read as gives the same numbers again
 unfoldable pub encodes : List ℕ → Bool
 encodes numbers = same (sessionNumbers (sessionRead numbers)) numbers
 
--- numbers of no session stand for one that is not sound: it waits and holds a byte
-abbrev pub unsoundSession : Session
-unsoundSession = record { selected = replicate 8 0; stage = Stage.Waiting; held = replicate 8 0; count = 1 }
+-- numbers of no session stand for one that is not sound: it waits and holds a byte, in the configuration that they name
+abbrev pub unsoundSession : List ℕ → Session
+unsoundSession numbers =
+    record { configuration = configurationRead numbers; stage = Stage.Waiting; held = replicate 8 0; count = 1 }
 
 unfoldable pub sessionIn : List ℕ → Session
-sessionIn numbers = cond (encodes numbers) (sessionRead numbers) unsoundSession
+sessionIn numbers = cond (encodes numbers) (sessionRead numbers) (unsoundSession numbers)
 
 -- what `encoding::session_numbers` promises of the numbers r of a session: they are its numbers, and every call reads them as the session
 pub record Encoding (session : Session) (r : List ℕ) : Type 0 where

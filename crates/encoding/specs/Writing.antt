@@ -2,11 +2,12 @@
 use Prim.Native.Nat.{ℕ}
 use mathlib.Core.List.{List, [], _∷_, _++_}
 use Rattle.octets.specs.Read.{firstEight}
+use Rattle.configuration.specs.declared.Configuration.{Configuration}
 use Rattle.stages.specs.declared.Port.{Port}
 use Rattle.stages.specs.declared.Session.{Session}
 use Rattle.stages.specs.declared.Stage.{Stage}
 use Rattle.answers.specs.Answers.{refusalNumber}
-use Rattle.numbers.specs.Writing.{bit}
+use Rattle.numbers.specs.Writing.{bit, enteredNumber}
 
 abbrev pub stageNumber : Stage → ℕ
 stageNumber Stage.Waiting = 0
@@ -38,10 +39,18 @@ loadNumbers (Stage.Data port load) = load .start .0 ∷ bit (load .vle) ∷ load
 loadNumbers (Stage.Stopped refusal) = 0 ∷ 0 ∷ 0 ∷ 0 ∷ refusalNumber refusal ∷ []
 loadNumbers (Stage.Jumped jump) = jump .start .0 ∷ bit (jump .vle) ∷ 0 ∷ 0 ∷ 0 ∷ []
 
--- the 24 numbers of a session
+-- what else a configuration has beside its password: how serial boot was entered
+abbrev pub configurationNumbers : Configuration → List ℕ
+configurationNumbers configuration = enteredNumber (configuration .entered) ∷ []
+
+-- the numbers of a session
+abbrev pub sessionWidth : ℕ
+sessionWidth = 25
+
 abbrev pub sessionNumbers : Session → List ℕ
 sessionNumbers session =
-    firstEight (session .selected)
+    firstEight (session .configuration .password)
     ++ (stageNumber (session .stage) ∷ portIn (session .stage) ∷ session .count ∷ [])
     ++ firstEight (session .held)
     ++ loadNumbers (session .stage)
+    ++ configurationNumbers (session .configuration)

@@ -1,11 +1,15 @@
 // Sessions written as lists of numbers, as they cross the C interface (include/boot_assist.h).
 ghost use mathlib.Core.Path.{_≡_};
 ghost use Rattle.filling.specs.Write.{filled};
-ghost use Rattle.encoding.specs.Writing.{stageNumber, portNumber, portIn, loadNumbers, sessionNumbers};
+ghost use Rattle.encoding.specs.Writing.{stageNumber, portNumber, portIn, loadNumbers, configurationNumbers, sessionNumbers};
 ghost use Rattle.encoding.specs.Reading.{Encoding};
+use configuration::Configuration;
 use stages::Port;
 use stages::Session;
 use stages::Stage;
+
+// How many numbers a session has.
+pub const SESSION_WIDTH: usize = 25;
 
 // The number of a port.
 fn port_number(port: Port) -> u32
@@ -65,16 +69,26 @@ fn load_numbers(stage: Stage) -> [u32; 5]
     }
 }
 
+// What else a configuration has beside its password.
+fn configuration_numbers(configuration: Configuration) -> [u32; 1]
+    ensures { λ r. ⌜ r ≡ configurationNumbers configuration ⌝ }
+{
+    let entered = configuration.entered;
+    [numbers::entered_number(entered)]
+}
+
 // The numbers of a session.
-pub fn session_numbers(session: Session) -> [u32; 24]
+pub fn session_numbers(session: Session) -> [u32; SESSION_WIDTH]
     ensures { λ r. ⌜ Encoding session r ⌝ }
 {
     let stage = session.stage;
-    let password = session.selected;
+    let configuration = session.configuration;
+    let password = configuration.password;
     let bytes = session.held;
     let selected = numbers::eight_numbers(password);
     let held = numbers::eight_numbers(bytes);
     let load = load_numbers(stage);
+    let last = configuration_numbers(configuration);
     [
         selected[0],
         selected[1],
@@ -100,6 +114,7 @@ pub fn session_numbers(session: Session) -> [u32; 24]
         load[2],
         load[3],
         load[4],
+        last[0],
     ]
 }
 

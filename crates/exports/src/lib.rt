@@ -1,10 +1,10 @@
 // The C interface (include/boot_assist.h): the names of the calls.
 ghost use mathlib.Core.Path.{_≡_};
-ghost use mathlib.Core.Bool.{not};
-ghost use lib.Dec.{eqb};
+ghost use mathlib.Core.List.{[], _∷_};
+ghost use Rattle.items.specs.declared.Source.{Source};
 ghost use Rattle.items.specs.Items.{Item};
 ghost use Rattle.choices.specs.Calls.{asChoiceReply, choiceAnswer};
-ghost use Rattle.mapping.specs.Calls.{asRowsReply, rowsAnswer};
+ghost use Rattle.mapping.specs.Calls.{asRowsReply, choiceRowsReply, sessionRowsReply};
 ghost use Rattle.capture.specs.Located.{asLocated, locatedAt};
 ghost use Rattle.calls.specs.Crossing.{asReply, itemReply};
 ghost use Rattle.runs.specs.Crossing.{listReply, asFreshReply, sessionReply};
@@ -27,12 +27,20 @@ pub extern "C" fn boot_assist_choice(
     choices::choose(bootcfg, flash, shadow, external, fields, password)
 }
 
-// The MMU rows.
+// The MMU rows of a choice.
 #[no_mangle]
-pub extern "C" fn boot_assist_rows(mode: u8, header: u8, rows: &mut [u32]) -> u8
-    ensures { λ r. ⌜ asRowsReply r (now (rows .exit)) ≡ rowsAnswer mode header (now (rows .entry)) ⌝ }
+pub extern "C" fn boot_assist_choice_rows(mode: u8, rows: &mut [u32]) -> u8
+    ensures { λ r. ⌜ asRowsReply r (now (rows .exit)) ≡ choiceRowsReply mode (now (rows .entry)) ⌝ }
 {
-    mapping::rows(mode, header, rows)
+    mapping::choice_rows(mode, rows)
+}
+
+// The MMU rows of a session.
+#[no_mangle]
+pub extern "C" fn boot_assist_session_rows(session: &[u32], rows: &mut [u32]) -> u8
+    ensures { λ r. ⌜ asRowsReply r (now (rows .exit)) ≡ sessionRowsReply (now (session .entry)) (now (rows .entry)) ⌝ }
+{
+    mapping::session_rows(session, rows)
 }
 
 // A fresh session, from the mode and the password of a serial choice.
@@ -54,7 +62,7 @@ pub extern "C" fn boot_assist_frame(
 ) -> u8
     ensures { λ r. ⌜
         asReply r (now (session .exit)) (now (sram .exit)) (now (answer .exit))
-        ≡ itemReply (now (session .entry)) (now (sram .entry)) (Item.Frame identifier (now («data» .entry))) (now (answer .entry))
+        ≡ itemReply (now (session .entry)) (now (sram .entry)) (Item.Of (Source.Can identifier) (now («data» .entry))) (now (answer .entry))
         ⌝ }
 {
     calls::frame(session, sram, identifier, data, answer)
@@ -71,7 +79,7 @@ pub extern "C" fn boot_assist_byte(
 ) -> u8
     ensures { λ r. ⌜
         asReply r (now (session .exit)) (now (sram .exit)) (now (answer .exit))
-        ≡ itemReply (now (session .entry)) (now (sram .entry)) (Item.Byte value (not (eqb mark 0))) (now (answer .entry))
+        ≡ itemReply (now (session .entry)) (now (sram .entry)) (Item.Of (Source.Serial mark) (value ∷ [])) (now (answer .entry))
         ⌝ }
 {
     calls::byte(session, sram, value, mark, answer)

@@ -4,13 +4,15 @@ use mathlib.Core.List.{List}
 use mathlib.Core.Bool.{Bool, cond, not, _&&_}
 use lib.Dec.{eqb}
 use Rattle.octets.specs.Read.{byteAt, wordAt}
-use Rattle.sram.specs.Region.{lies}
+use Rattle.configuration.specs.declared.Configuration.{Configuration}
+use Rattle.sram.specs.Region.{inRange}
+use Rattle.stages.specs.declared.Refusal.{Refusal}
 use Rattle.header.specs.declared.Header.{Header}
-use Rattle.header.specs.declared.Verdict.{Verdict}
+use Rattle.header.specs.declared.Validated.{Validated}
 
--- "4 bytes start, whose two lowest bits are dropped; then the VLE bit and 31 bits of length"
-abbrev pub headerOf : List ℕ → Header
-headerOf bytes =
+-- "4 bytes start, whose two lowest bits are dropped; then the VLE bit and 31 bits of length", whatever the session's configuration
+abbrev pub headerRead : Configuration → List ℕ → Header
+headerRead configuration bytes =
     record {
       start = record { 0 = wordAt bytes 0 / 4 * 4 };
       vle = eqb (byteAt bytes 4 / 128) 1;
@@ -21,16 +23,16 @@ headerOf bytes =
 abbrev pub announcesNone : Header → Bool
 announcesNone header = eqb (header .length) 0
 
--- number 4: "otherwise start and length must lie wholly in SRAM or the session stops"
-abbrev pub within : Header → Bool
-within header = lies (header .start .0) (header .length)
+-- number 4, if the length is not 0, unless: "start and length must lie wholly in SRAM"
+abbrev pub within : Configuration → Header → Bool
+within configuration header = inRange configuration (header .start .0) (header .length)
 
 -- "A header fits if neither 3 nor 4 is due."
-abbrev pub fits : Header → Bool
-fits header = not (announcesNone header) && within header
+abbrev pub fits : Configuration → Header → Bool
+fits configuration header = not (announcesNone header) && within configuration header
 
 -- "Length 0 stops the session; otherwise start and length must lie wholly in SRAM or the session stops."
-unfoldable pub verdictOf : List ℕ → Verdict
-verdictOf bytes =
-    cond (announcesNone (headerOf bytes)) Verdict.NoBytes
-    (cond (within (headerOf bytes)) (Verdict.Fits (headerOf bytes)) Verdict.Outside)
+unfoldable pub validated : Configuration → Header → Validated
+validated configuration header =
+    cond (announcesNone header) (Validated.Refused Refusal.Length)
+    (cond (within configuration header) (Validated.Fits header) (Validated.Refused Refusal.Range))

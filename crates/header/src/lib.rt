@@ -1,7 +1,9 @@
 // The header of a load (01, "A serial session"; 003).
 ghost use mathlib.Core.Path.{_≡_};
-ghost use Rattle.header.specs.Reading.{verdictOf};
+ghost use Rattle.header.specs.Reading.{headerRead, validated};
+use configuration::Configuration;
 use sram::Aligned;
+use stages::Refusal;
 
 // Where a load starts, whether it is VLE code, and how many bytes it announces.
 pub struct Header {
@@ -10,32 +12,42 @@ pub struct Header {
     pub length: u32,
 }
 
-// What becomes of a header: it announces no bytes, or a load that does not lie wholly in SRAM, or it fits.
-pub enum Verdict {
-    NoBytes,
-    Outside,
+// A header that is refused, with 3 or 4 (`answers: Answers.refusalNumber` gives the number), or one that fits.
+pub enum Validated {
+    Refused(Refusal),
     Fits(Header),
 }
 
-// What 8 header bytes say.
-pub fn judge(bytes: [u8; 8]) -> Verdict
-    ensures { λ r. ⌜ r ≡ verdictOf bytes ⌝ }
+// What 8 bytes say as a header.
+fn read(configuration: Configuration, bytes: [u8; 8]) -> Header
+    ensures { λ r. ⌜ r ≡ headerRead configuration bytes ⌝ }
 {
     let all = &bytes[..];
-    let first = octets::word(all, 0);
-    let flags = octets::byte(all, 4);
-    let length = octets::word(all, 4) % 0x8000_0000;
-    let start = sram::align(first);
-    if length == 0 {
-        return Verdict::NoBytes;
+    let start = sram::align(octets::word(all, 0));
+    Header {
+        start: start,
+        vle: octets::byte(all, 4) / 128 == 1,
+        length: octets::word(all, 4) % 0x8000_0000,
     }
-    if sram::is_within(start.0, length) {
-        let header = Header {
-            start: start,
-            vle: flags / 128 == 1,
-            length: length,
-        };
-        return Verdict::Fits(header);
+}
+
+// Whether a header fits.
+fn check(configuration: Configuration, header: Header) -> Validated
+    ensures { λ r. ⌜ r ≡ validated configuration header ⌝ }
+{
+    let start = header.start;
+    if header.length == 0 {
+        return Validated::Refused(Refusal::Length);
     }
-    Verdict::Outside
+    if sram::is_in_range(configuration, start.0, header.length) {
+        return Validated::Fits(header);
+    }
+    Validated::Refused(Refusal::Range)
+}
+
+// What becomes of 8 header bytes.
+pub fn validate(configuration: Configuration, bytes: [u8; 8]) -> Validated
+    ensures { λ r. ⌜ r ≡ validated configuration (headerRead configuration bytes) ⌝ }
+{
+    check(configuration, read(configuration, bytes))
 }

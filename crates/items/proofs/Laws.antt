@@ -1,114 +1,92 @@
--- What an item that a stage takes says of its counts.
+-- What an item that counts for a role by a port says of its form, its port and its bytes.
 use Prim.Native.Nat.{ℕ, _≤_}
 use native.Mathlib.Omega.{arith}
-use mathlib.Core.Path.{_≡_, refl, sym}
-use mathlib.Core.List.{List, [], _∷_}
-use mathlib.Core.Bool.{Bool, true, false, cond, not, _&&_, and-eq-true-iff, false≢true}
-use borrow.Author.Tests.{eqb-true, leb-true, le-leb, not-true}
+use mathlib.Core.Path.{_≡_, refl}
+use mathlib.Core.Bool.{true, false, _&&_, and-eq-true-iff, false≢true}
+use borrow.Author.Tests.{eqb-true, leb-true, le-leb}
 use lib.Dec.{leb, eqb}
 use lib.ListN.{length}
-use Rattle.stages.specs.declared.Load.{Load}
+use Rattle.octets.proofs.Cases.{by-test}
 use Rattle.stages.specs.declared.Port.{Port}
-use Rattle.stages.specs.declared.Stage.{Stage}
-use Rattle.octets.specs.Read.{byteAt}
-use Rattle.items.specs.Items.{Item, cleanKind, itemOf, wellFormed, bytesOf, eightUnder, dataUnder}
-use Rattle.stages.specs.Sound.{loadSound}
-use Rattle.stages.proofs.Laws.{load-fits}
-use Rattle.items.specs.Taking.{takes}
+use Rattle.items.specs.declared.Reaction.{Reaction}
+use Rattle.items.specs.declared.Role.{Role}
+use Rattle.items.specs.declared.Source.{Source}
+use Rattle.items.specs.Items.{Item, wellFormed, portOf, bytesOf}
+use Rattle.items.specs.Reacting.{eightUnder, dataFitting, cleanByte, countsAs, heard}
 
--- the bytes of an item that opens: 8 of CAN, 1 of serial
-pub eight-long : (wanted identifier : ℕ) (frame : List ℕ) → eightUnder wanted identifier frame ≡ true → length frame ≡ 8
-eight-long wanted identifier frame e =
-    eqb-true (length frame) 8 (and-eq-true-iff (eqb identifier wanted) (eqb (length frame) 8) .0 e .1)
+-- an item is taken or ignored by whether it counts
+pub by-hearing : (P : Reaction → Type 0) (role : Role) (port : Port) (item : Item)
+    → (countsAs role port item ≡ true → P (Reaction.Takes role port))
+    → (countsAs role port item ≡ false → P Reaction.Ignores)
+    → P (heard role port item)
+by-hearing P role port item takes ignores =
+    by-test P (Reaction.Takes role port) Reaction.Ignores (countsAs role port item) takes ignores
 
-pub eight-formed : (wanted identifier : ℕ) (frame : List ℕ) → wanted ≤ 2047 → eightUnder wanted identifier frame ≡ true
-    → wellFormed (Item.Frame identifier frame) ≡ true
-eight-formed wanted identifier frame small e =
-    let h = and-eq-true-iff (eqb identifier wanted) (eqb (length frame) 8) .0 e in
+-- how many bytes an item has: by CAN all 8 of a password or a header come at once, by serial one comes at a time
+abbrev pub EightBy : Port → ℕ → Type 0
+EightBy Port.Can count = count ≡ 8
+EightBy Port.Serial count = count ≡ 1
+
+-- and data: by CAN no more than are owed
+abbrev pub DataBy : Port → ℕ → ℕ → Type 0
+DataBy Port.Can owed count = count ≤ owed
+DataBy Port.Serial owed count = count ≡ 1
+
+abbrev pub Sized : Role → Port → ℕ → Type 0
+Sized Role.Password port count = EightBy port count
+Sized Role.Header port count = EightBy port count
+Sized (Role.Data load) port count = DataBy port (load .owed) count
+
+pub record Counted (role : Role) (port : Port) (item : Item) : Type 0 where
+  pub formed : wellFormed item ≡ true
+  pub own : portOf item ≡ port
+  pub sized : Sized role port (length (bytesOf item))
+
+pub serial-not-can : Port.Serial ≡ Port.Can → ⊥
+serial-not-can h = let z : _≡_ {A = ℕ} 0 1 = cc in omega arith
+
+eight-counted : (role : Role) (wanted : ℕ) (item : Item) → wanted ≤ 2047 → eightUnder wanted item ≡ true
+    → (length (bytesOf item) ≡ 8 → Sized role Port.Can (length (bytesOf item)))
+    → Counted role Port.Can item
+eight-counted role wanted (Item.Of (Source.Can identifier) bytes) small e sized =
+    let h = and-eq-true-iff (eqb identifier wanted) (eqb (length bytes) 8) .0 e in
     let i : identifier ≡ wanted = eqb-true identifier wanted (h .0) in
-    let n : length frame ≡ 8 = eqb-true (length frame) 8 (h .1) in
-    rw (le-leb identifier 2047 (omega arith), le-leb (length frame) 8 (omega arith))
+    let n : length bytes ≡ 8 = eqb-true (length bytes) 8 (h .1) in
+    record {
+      formed = rw (le-leb identifier 2047 (omega arith), le-leb (length bytes) 8 (omega arith));
+      own = refl;
+      sized = sized n;
+    }
+eight-counted role wanted (Item.Of (Source.Serial mark) bytes) small e sized = absurd (false≢true e)
 
--- what a data frame's test says
-pub record Fits (owed identifier : ℕ) (frame : List ℕ) : Type 0 where
-  pub under : identifier ≡ 0x013
-  pub some-bytes : 1 ≤ length frame
-  pub at-most : length frame ≤ 8
-  pub not-above : length frame ≤ owed
-
-pub data-fits : (owed identifier : ℕ) (frame : List ℕ) → dataUnder owed identifier frame ≡ true → Fits owed identifier frame
-data-fits owed identifier frame e =
-    let n = length frame in
+data-counted : (role : Role) (owed : ℕ) (item : Item) → dataFitting owed item ≡ true
+    → (length (bytesOf item) ≤ owed → Sized role Port.Can (length (bytesOf item)))
+    → Counted role Port.Can item
+data-counted role owed (Item.Of (Source.Can identifier) bytes) e sized =
+    let n = length bytes in
     let h = and-eq-true-iff (eqb identifier 0x013 && leb 1 n && leb n 8) (leb n owed) .0 e in
     let i = and-eq-true-iff (eqb identifier 0x013 && leb 1 n) (leb n 8) .0 (h .0) in
     let j = and-eq-true-iff (eqb identifier 0x013) (leb 1 n) .0 (i .0) in
+    let under : identifier ≡ 0x013 = eqb-true identifier 0x013 (j .0) in
     record {
-      under = eqb-true identifier 0x013 (j .0);
-      some-bytes = leb-true 1 n (j .1);
-      at-most = leb-true n 8 (i .1);
-      not-above = leb-true n owed (h .1);
+      formed = rw (le-leb identifier 2047 (omega arith), i .1);
+      own = refl;
+      sized = sized (leb-true n owed (h .1));
     }
+data-counted role owed (Item.Of (Source.Serial mark) bytes) e sized = absurd (false≢true e)
 
-pub data-formed : (owed identifier : ℕ) (frame : List ℕ) → dataUnder owed identifier frame ≡ true
-    → wellFormed (Item.Frame identifier frame) ≡ true
-data-formed owed identifier frame e =
-    let f = data-fits owed identifier frame e in
-    rw (le-leb identifier 2047 (omega arith), le-leb (length frame) 8 (omega arith))
+clean-counted : (role : Role) (item : Item) → cleanByte item ≡ true
+    → (length (bytesOf item) ≡ 1 → Sized role Port.Serial (length (bytesOf item)))
+    → Counted role Port.Serial item
+clean-counted role (Item.Of (Source.Can identifier) bytes) e sized = absurd (false≢true e)
+clean-counted role (Item.Of (Source.Serial mark) bytes) e sized =
+    let one = and-eq-true-iff (eqb (length bytes) 1) (eqb mark 0) .0 e .0 in
+    record { formed = one; own = refl; sized = sized (eqb-true (length bytes) 1 one) }
 
--- an item that is taken is not refused for its form
-pub taken-formed : (stage : Stage) (item : Item) → takes stage item ≡ true → wellFormed item ≡ true
-unfolding takes
-taken-formed stage (Item.Byte byte faulty) e = refl
-taken-formed Stage.Waiting (Item.Frame identifier frame) e = eight-formed 0x011 identifier frame (omega arith) e
-taken-formed Stage.Password (Item.Frame identifier frame) e = absurd (false≢true e)
-taken-formed (Stage.Header Port.Can) (Item.Frame identifier frame) e = eight-formed 0x012 identifier frame (omega arith) e
-taken-formed (Stage.Header Port.Serial) (Item.Frame identifier frame) e = absurd (false≢true e)
-taken-formed (Stage.Data Port.Can load) (Item.Frame identifier frame) e = data-formed (load .owed) identifier frame e
-taken-formed (Stage.Data Port.Serial load) (Item.Frame identifier frame) e = absurd (false≢true e)
-taken-formed (Stage.Stopped refusal) (Item.Frame identifier frame) e = absurd (false≢true e)
-taken-formed (Stage.Jumped jump) (Item.Frame identifier frame) e = absurd (false≢true e)
-
--- bytes taken in the data stage lie in SRAM from the next address
-pub taken-inside : (port : Port) (load : Load) (item : Item) → loadSound load ≡ true → takes (Stage.Data port load) item ≡ true
-    → length (bytesOf item) ≤ load .owed
-unfolding takes
-taken-inside Port.Can load (Item.Frame identifier frame) s e = data-fits (load .owed) identifier frame e .not-above
-taken-inside Port.Can load (Item.Byte byte faulty) s e = absurd (false≢true e)
-taken-inside Port.Serial load (Item.Frame identifier frame) s e = absurd (false≢true e)
-taken-inside Port.Serial load (Item.Byte byte faulty) s e = load-fits load s .some-owed
-
--- a serial byte that is taken is clean
-clean-taken : (stage : Stage) (byte : ℕ) (faulty : Bool) → takes stage (Item.Byte byte faulty) ≡ true → faulty ≡ false
-unfolding takes
-clean-taken Stage.Waiting byte faulty e = not-true faulty e
-clean-taken Stage.Password byte faulty e = not-true faulty e
-clean-taken (Stage.Header Port.Can) byte faulty e = absurd (false≢true e)
-clean-taken (Stage.Header Port.Serial) byte faulty e = not-true faulty e
-clean-taken (Stage.Data Port.Can load) byte faulty e = absurd (false≢true e)
-clean-taken (Stage.Data Port.Serial load) byte faulty e = not-true faulty e
-clean-taken (Stage.Stopped refusal) byte faulty e = absurd (false≢true e)
-clean-taken (Stage.Jumped jump) byte faulty e = absurd (false≢true e)
-
--- the bytes handed in with an item that is taken are the item's
-pub taken-bytes : (stage : Stage) (kind identifier : ℕ) (bytes : List ℕ) → takes stage (itemOf kind identifier bytes) ≡ true
-    → bytesOf (itemOf kind identifier bytes) ≡ bytes
-unfolding itemOf
-taken-bytes stage kind identifier bytes = by-kind (eqb kind 1)
-  where
-    is-true : (t : Bool) → not t ≡ false → t ≡ true
-    is-true true e = refl
-    is-true false e = sym e
-
-    one-byte : (l : List ℕ) → length l ≡ 1 → byteAt l 0 ∷ [] ≡ l
-    one-byte [] e = absurd (omega arith)
-    one-byte (a ∷ []) e = refl
-    one-byte (a ∷ b ∷ l) e = absurd (omega arith)
-
-    by-kind
-        : (t : Bool)
-        → takes stage (cond t (Item.Frame identifier bytes) (Item.Byte (byteAt bytes 0) (not (cleanKind kind (length bytes))))) ≡ true
-        → bytesOf (cond t (Item.Frame identifier bytes) (Item.Byte (byteAt bytes 0) (not (cleanKind kind (length bytes))))) ≡ bytes
-    by-kind true e = refl
-    by-kind false e =
-        let clean = is-true (cleanKind kind (length bytes)) (clean-taken stage (byteAt bytes 0) (not (cleanKind kind (length bytes))) e) in
-        one-byte bytes (eqb-true (length bytes) 1 (and-eq-true-iff (eqb kind 2) (eqb (length bytes) 1) .0 clean .1))
+pub counted : (role : Role) (port : Port) (item : Item) → countsAs role port item ≡ true → Counted role port item
+counted Role.Password Port.Can item e = eight-counted Role.Password 0x011 item (omega arith) e (λ n. n)
+counted Role.Header Port.Can item e = eight-counted Role.Header 0x012 item (omega arith) e (λ n. n)
+counted (Role.Data load) Port.Can item e = data-counted (Role.Data load) (load .owed) item e (λ few. few)
+counted Role.Password Port.Serial item e = clean-counted Role.Password item e (λ n. n)
+counted Role.Header Port.Serial item e = clean-counted Role.Header item e (λ n. n)
+counted (Role.Data load) Port.Serial item e = clean-counted (Role.Data load) item e (λ n. n)

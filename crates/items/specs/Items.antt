@@ -1,53 +1,48 @@
 -- Items (01, "A serial session").
 use Prim.Native.Nat.{ℕ}
-use mathlib.Core.List.{List, [], _∷_}
-use mathlib.Core.Bool.{Bool, true, cond, not, _&&_}
-use lib.ListN.{length}
+use mathlib.Core.List.{List}
+use mathlib.Core.Bool.{Bool, cond, _&&_, _||_}
+use lib.ListN.{length, drop}
 use lib.Dec.{leb, eqb}
-use Rattle.octets.specs.Read.{byteAt}
+use Rattle.octets.specs.Read.{halfAt}
 use Rattle.stages.specs.declared.Port.{Port}
+use Rattle.items.specs.declared.Source.{Source}
 
--- "Items: a CAN frame (identifier 0 to 2,047, 0 to 8 data bytes), or a serial byte marked clean or faulty." The identifier and the data of
--- a frame that is handed in are any.
+-- "Items: a CAN frame (identifier 0 to 2,047, 0 to 8 data bytes), or a serial byte marked clean or faulty." It has a source, which is
+-- a CAN identifier or the serial line with a mark, and bytes. One that breaks these limits is an item too: it gets 6.
 pub data Item : Type 0 where
-  Frame : ℕ → List ℕ → Item
-  Byte : ℕ → Bool → Item
+  Of : Source → List ℕ → Item
 
--- an item by its kind, as a capture has it (01, "The truck's capture file"): kind 1 is a CAN frame, kind 2 with its one byte a clean serial
--- byte; kind 3 is a faulty one, and so is all else
-abbrev pub cleanKind : ℕ → ℕ → Bool
-cleanKind kind count = eqb kind 2 && eqb count 1
-
-unfoldable pub itemOf : ℕ → ℕ → List ℕ → Item
-itemOf kind identifier bytes =
-    cond (eqb kind 1)
-    (Item.Frame identifier bytes)
-    (Item.Byte (byteAt bytes 0) (not (cleanKind kind (length bytes))))
-
--- not refused for its form; number 6: "identifier above 2,047 or count above 8"
+-- not refused for its form; number 6: "identifier above 2,047 or count above 8", and of serial anything but one byte
 abbrev pub wellFormed : Item → Bool
-wellFormed (Item.Frame identifier frame) = leb identifier 2047 && leb (length frame) 8
-wellFormed (Item.Byte byte faulty) = true
+wellFormed (Item.Of (Source.Can identifier) bytes) = leb identifier 2047 && leb (length bytes) 8
+wellFormed (Item.Of (Source.Serial mark) bytes) = eqb (length bytes) 1
+
+abbrev pub portFrom : Source → Port
+portFrom (Source.Can identifier) = Port.Can
+portFrom (Source.Serial mark) = Port.Serial
 
 abbrev pub portOf : Item → Port
-portOf (Item.Frame identifier frame) = Port.Can
-portOf (Item.Byte byte faulty) = Port.Serial
+portOf (Item.Of source bytes) = portFrom source
 
 -- the data of a frame, or the byte
 abbrev pub bytesOf : Item → List ℕ
-bytesOf (Item.Frame identifier frame) = frame
-bytesOf (Item.Byte byte faulty) = byte ∷ []
+bytesOf (Item.Of source bytes) = bytes
 
--- a frame with this identifier and 8 bytes
-abbrev pub eightUnder : ℕ → ℕ → List ℕ → Bool
-eightUnder wanted identifier frame = eqb identifier wanted && eqb (length frame) 8
+-- An item by its kind (01, "The truck's capture file"): "Kind 1, CAN", "Kind 2 a clean, kind 3 a faulty serial byte". No other kind is an
+-- item's, nor is a serial one with another count than 1: a list with such is refused as a whole, and no record of kind 1 to 3 has such.
+abbrev pub isItem : ℕ → ℕ → Bool
+isItem kind count = eqb kind 1 || (eqb kind 2 || eqb kind 3) && eqb count 1
 
--- "only 0x013 with n bytes, 1 <= n <= 8 and n not above what is still owed"
-abbrev pub dataUnder : ℕ → ℕ → List ℕ → Bool
-dataUnder owed identifier frame =
-    eqb identifier 0x013 && leb 1 (length frame) && leb (length frame) 8 && leb (length frame) owed
+abbrev pub markOf : ℕ → ℕ
+markOf kind = cond (eqb kind 2) 0 1
 
--- "An opening is a CAN frame 0x011 with 8 bytes or a clean serial byte"
-abbrev pub opens : Item → Bool
-opens (Item.Frame identifier frame) = eightUnder 0x011 identifier frame
-opens (Item.Byte byte faulty) = not faulty
+unfoldable pub sourceOf : ℕ → ℕ → Source
+sourceOf kind identifier = cond (eqb kind 1) (Source.Can identifier) (Source.Serial (markOf kind))
+
+-- out of a record's body: "Kind 1, CAN: two identifier bytes, 0 to 8 data bytes"
+abbrev pub leading : ℕ → ℕ
+leading kind = cond (eqb kind 1) 2 0
+
+abbrev pub itemIn : ℕ → List ℕ → Item
+itemIn kind body = Item.Of (sourceOf kind (halfAt body 0)) (drop (leading kind) body)

@@ -1,2 +1,2 @@
 pub mod Items
-pub mod Taking
+pub mod Reacting

@@ -1,4 +1,4 @@
--- The text ends: once the capture has been read to its end, a call ends the text or takes bytes of what is left.
+-- The text ends: once the capture has been read to its end, a call ends the text or takes some of the bytes still to be played.
 use Prim.Native.Nat.{ℕ, zero, suc, _+_, _-_, _≤_, _<_}
 use native.Mathlib.Omega.{arith}
 use mathlib.Core.Path.{_≡_, refl, sym, ap, _∙_}
@@ -9,7 +9,7 @@ use lib.Dec.{leb}
 use lib.ListN.{length, drop, replicate, length-append, length-drop}
 use Rattle.beginnings.specs.Beginning.{Carried}
 use Rattle.report.specs.Windows.{Playing, atFirst, onward, ready, plays, playedIn}
-use Rattle.report.proofs.Going.{step-within}
+use Rattle.report.proofs.Continuing.{printing-within}
 use Rattle.joining.specs.Joining.{Reading, Between, captureOf, onWindow, windowOf, behind, called, calls, atEnd, atStart, toTheEnd}
 
 module _ (window : List ℕ) (last : Bool) (room : ℕ) where
@@ -28,25 +28,25 @@ module _ (window : List ℕ) (last : Bool) (room : ℕ) where
   -- up to a state that has not ended, bytes were taken, and no more records than bytes
   abbrev Since : Playing → Playing → Type 0
   Since p q =
-      (p .place ≤ q .place) × (q .place ≤ length window) × (q .kept .number + p .place ≤ p .kept .number + q .place)
+      (p .at ≤ q .at) × (q .at ≤ length window) × (q .kept .ordinal + p .at ≤ p .kept .ordinal + q .at)
 
-  onward-within : (p : Playing) → p .place ≤ length window → onward window p .ended ≡ false
-      → Since p (onward window p) × (p .place + 4 ≤ onward window p .place)
+  onward-within : (p : Playing) → p .at ≤ length window → onward window p .ended ≡ false
+      → Since p (onward window p) × (p .at + 4 ≤ onward window p .at)
   onward-within p inside e =
-      let left = drop (p .place) window in
-      let some = step-within (p .kept) left in
-      let many = length-drop (p .place) window in
+      let unread = drop (p .at) window in
+      let some = printing-within (p .kept) unread in
+      let many = length-drop (p .at) window in
       let four = some .1 e in
       ((omega arith, omega (arith, some .0, many, inside), omega (arith, some .2, four)), omega (arith, four))
 
-  plays-within : (more : ℕ) (p : Playing) → p .place ≤ length window → upTo more p .ended ≡ false
+  plays-within : (more : ℕ) (p : Playing) → p .at ≤ length window → upTo more p .ended ≡ false
       → Since p (upTo more p)
   plays-within zero p inside e = (omega arith, inside, omega arith)
   plays-within (suc more) p inside e = by-ready (ready window last room p) (plays-within more (onward window p)) e
     where
       by-ready
           : (t : Bool)
-          → (onward window p .place ≤ length window → upTo more (onward window p) .ended ≡ false
+          → (onward window p .at ≤ length window → upTo more (onward window p) .ended ≡ false
           → Since (onward window p) (upTo more (onward window p)))
           → cond t (upTo more (onward window p)) p .ended ≡ false
           → Since p (cond t (upTo more (onward window p)) p)
@@ -62,8 +62,8 @@ module _ (window : List ℕ) (last : Bool) (room : ℕ) where
 
   -- the same of a call
   played-within : (kept : Carried) → playedIn window last room kept .ended ≡ false
-      → (playedIn window last room kept .place ≤ length window)
-      × (playedIn window last room kept .kept .number ≤ kept .number + playedIn window last room kept .place)
+      → (playedIn window last room kept .at ≤ length window)
+      × (playedIn window last room kept .kept .ordinal ≤ kept .ordinal + playedIn window last room kept .at)
   unfolding playedIn
   played-within kept e =
       let all = plays-within (suc (length window)) (atFirst kept) (omega arith) e in
@@ -71,27 +71,27 @@ module _ (window : List ℕ) (last : Bool) (room : ℕ) where
 
   -- a call that can read a record takes it
   played-some : (kept : Carried) → ready window last room (atFirst kept) ≡ true → playedIn window last room kept .ended ≡ false
-      → 4 ≤ playedIn window last room kept .place
+      → 4 ≤ playedIn window last room kept .at
   unfolding playedIn
   played-some kept yes-ready = rw yes-ready (λ e. by-over e (onward window (atFirst kept) .ended) refl)
     where
       first : Playing
       first = onward window (atFirst kept)
 
-      by-over : upTo (length window) first .ended ≡ false → (o : Bool) → first .ended ≡ o → 4 ≤ upTo (length window) first .place
+      by-over : upTo (length window) first .ended ≡ false → (o : Bool) → first .ended ≡ o → 4 ≤ upTo (length window) first .at
       by-over e true o = absurd (false≢true (sym e ∙ over-stays (length window) first o))
       by-over e false o =
           let here = onward-within (atFirst kept) (omega arith) o in
           omega (arith, here .1, plays-within (length window) first (here .0 .1) e .0)
 
 -- where there is room, 14 bytes or the end of the capture are enough for that
-ready-first : (window : List ℕ) (last : Bool) (room : ℕ) (kept : Carried) → 96 ≤ room → kept .number < 0xFFFF_FFFF_FFFF_FFFF
+ready-first : (window : List ℕ) (last : Bool) (room : ℕ) (kept : Carried) → 96 ≤ room → kept .ordinal < 0xFFFF_FFFF_FFFF_FFFF
     → last || leb 14 (length window) ≡ true
     → ready window last room (atFirst kept) ≡ true
 unfolding ready
 ready-first window last room kept wide small seen =
     let none : length window - 0 ≡ length window = omega arith in
-    rw (none, seen, le-leb 96 (room - 0) (omega (arith, wide)), lt-ltb (kept .number) 0xFFFF_FFFF_FFFF_FFFF small)
+    rw (none, seen, le-leb 96 (room - 0) (omega (arith, wide)), lt-ltb (kept .ordinal) 0xFFFF_FFFF_FFFF_FFFF small)
 
 module _ (room : ℕ) where
   -- after the text has ended there are no more calls
@@ -110,11 +110,11 @@ module _ (room : ℕ) where
       → called room b reading ≡ behind b (onWindow (windowOf b reading) (reading .last) room (b .kept))
   call-on b reading e = rw e
 
-  -- bytes that are left were there or were read, and no more records were counted than bytes went
+  -- the bytes still to be played were there before or were read, and no more records were counted than bytes were taken
   abbrev Less : Between → ℕ → Between → Type 0
   Less b many c =
       (length (c .rest) ≤ length (b .rest) + many)
-      × (c .kept .number + length (c .rest) ≤ b .kept .number + length (b .rest) + many)
+      × (c .kept .ordinal + length (c .rest) ≤ b .kept .ordinal + length (b .rest) + many)
 
   call-less : (b : Between) (reading : Reading) → called room b reading .ended ≡ false
       → Less b (length (reading .bytes)) (called room b reading)
@@ -124,8 +124,8 @@ module _ (room : ℕ) where
       let p = playedIn window (reading .last) room (b .kept) in
       let within = played-within window (reading .last) room (b .kept) (sym (ap (λ (c : Between). c .ended) same) ∙ e) in
       let long = length-append (b .rest) (reading .bytes) in
-      let left = length-drop (p .place) window in
-      rw same (omega (arith, within .0, long, left), omega (arith, within .0, within .1, long, left))
+      let shorter = length-drop (p .at) window in
+      rw same (omega (arith, within .0, long, shorter), omega (arith, within .0, within .1, long, shorter))
 
   calls-less : (b : Between) (readings : List Reading) → calls room b readings .ended ≡ false
       → Less b (length (captureOf readings)) (calls room b readings)
@@ -136,12 +136,12 @@ module _ (room : ℕ) where
       let long = length-append (reading .bytes) (captureOf readings) in
       (omega (arith, first .0, rest .0, long), omega (arith, first .1, rest .1, long))
 
-  -- a call that has room, and bytes enough or the end of the capture, ends the text or leaves fewer bytes
-  pub call-goes-on : (b : Between) (reading : Reading) → 96 ≤ room → b .kept .number < 0xFFFF_FFFF_FFFF_FFFF
+  -- a call that has room, and bytes enough or the end of the capture, ends the text or takes bytes
+  pub call-advances : (b : Between) (reading : Reading) → 96 ≤ room → b .kept .ordinal < 0xFFFF_FFFF_FFFF_FFFF
       → reading .last || leb 14 (length (windowOf b reading)) ≡ true
       → called room b reading .ended ≡ false
       → length (called room b reading .rest) + 4 ≤ length (windowOf b reading)
-  call-goes-on b reading wide small seen e =
+  call-advances b reading wide small seen e =
       let window = windowOf b reading in
       let last = reading .last in
       let same = call-on b reading (not-over b (reading ∷ []) e) in
@@ -149,16 +149,16 @@ module _ (room : ℕ) where
       let ended = sym (ap (λ (c : Between). c .ended) same) ∙ e in
       let some = played-some window last room (b .kept) (ready-first window last room (b .kept) wide small seen) ended in
       let within = played-within window last room (b .kept) ended in
-      rw same (omega (arith, some, within .0, length-drop (p .place) window))
+      rw same (omega (arith, some, within .0, length-drop (p .at) window))
 
   finish : (n : ℕ) (b : Between) → 96 ≤ room → length (b .rest) < n
-      → b .kept .number + length (b .rest) < 0xFFFF_FFFF_FFFF_FFFF
+      → b .kept .ordinal + length (b .rest) < 0xFFFF_FFFF_FFFF_FFFF
       → calls room b (replicate n atEnd) .ended ≡ true
   finish zero b wide few small = absurd (omega arith)
   finish (suc n) b wide few small =
       by-ended (called room b atEnd .ended) refl
       (λ e. let less = call-less b atEnd e in
-      finish n (called room b atEnd) wide (omega (arith, few, call-goes-on b atEnd wide (omega (arith, small)) refl e, length-append (b .rest) [])) (omega (arith, small, less .1)))
+      finish n (called room b atEnd) wide (omega (arith, few, call-advances b atEnd wide (omega (arith, small)) refl e, length-append (b .rest) [])) (omega (arith, small, less .1)))
     where
       by-ended
           : (t : Bool)

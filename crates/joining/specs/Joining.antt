@@ -6,7 +6,7 @@ use mathlib.Core.Bool.{Bool, true, false, cond, _||_}
 use lib.ListN.{length, drop, replicate}
 use lib.Dec.{leb}
 use Rattle.beginnings.specs.Beginning.{Carried, beginning}
-use Rattle.report.specs.Steps.{textFrom}
+use Rattle.report.specs.Printing.{textFrom}
 use Rattle.report.specs.Windows.{playedIn}
 
 -- what a read brings: the next bytes of the capture, and whether the capture ends with them
@@ -39,14 +39,14 @@ pub record Between : Type 0 where
 abbrev pub onWindow : List ℕ → Bool → ℕ → Carried → Between
 onWindow window last room kept =
     let p = playedIn window last room kept in
-    record { text = p .text; ended = p .ended; rest = drop (p .place) window; kept = p .kept }
+    record { text = p .text; ended = p .ended; rest = drop (p .at) window; kept = p .kept }
 
--- its text goes behind the text so far
+-- its text is put behind the text so far
 abbrev pub behind : Between → Between → Between
 behind here next =
     record { text = here .text ++ next .text; ended = next .ended; rest = next .rest; kept = next .kept }
 
--- a call's window: what was left, and then what is read
+-- a call's window: the bytes still to be played, and then what is read
 abbrev pub windowOf : Between → Reading → List ℕ
 windowOf here reading = here .rest ++ reading .bytes
 
@@ -74,11 +74,11 @@ toTheEnd readings = readings ++ replicate (suc (length (captureOf readings))) at
 
 -- What `joining::every_capture` promises, in whatever pieces the capture is read
 pub record EveryCapture : Type 0 where
-  -- at any time its text is what the calls have written and then, unless that has ended, the text for what is left and still to be read
+  -- at any time its text is what the calls have written and then, unless that has ended, the text for the bytes still to be played or read
   pub so-far : (room : ℕ) (done later : List Reading) → Ordered (done ++ later)
       → textFrom beginning (captureOf (done ++ later)) ≡ wholeText (calls room atStart done) (captureOf later)
-  -- with room for a record's text and a number for it, and 14 bytes in its window or the end of the capture, a call ends the text or takes a record
-  pub goes-on : (room : ℕ) (here : Between) (reading : Reading) → 96 ≤ room → here .kept .number < 0xFFFF_FFFF_FFFF_FFFF
+  -- with room for a record's text and an ordinal for it, and 14 bytes in its window or the end of the capture, a call ends the text or takes a record
+  pub advances : (room : ℕ) (here : Between) (reading : Reading) → 96 ≤ room → here .kept .ordinal < 0xFFFF_FFFF_FFFF_FFFF
       → reading .last || leb 14 (length (windowOf here reading)) ≡ true
       → called room here reading .ended ≡ false
       → length (called room here reading .rest) + 4 ≤ length (windowOf here reading)

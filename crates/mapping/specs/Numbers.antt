@@ -1,15 +1,8 @@
 -- The numbers that stand for the MMU rows in the C interface (include/boot_assist.h).
 use Prim.Native.Nat.{ℕ}
 use mathlib.Core.List.{List, [], _∷_, _++_}
-use mathlib.Core.Bool.{cond}
-use lib.Dec.{eqb}
-use Rattle.mmu.specs.declared.Header.{Header}
 use Rattle.mmu.specs.declared.Row.{Row}
 use Rattle.numbers.specs.Writing.{bit}
-
--- the header: 0 not accepted, 1 accepted with VLE 0, 2 accepted with VLE 1
-abbrev pub headerOf : ℕ → Header
-headerOf number = cond (eqb number 0) Header.NotAccepted (Header.Accepted (eqb number 2))
 
 -- the eight numbers of a row
 abbrev pub rowNumbers : Row → List ℕ

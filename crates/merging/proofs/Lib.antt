@@ -1,4 +1,4 @@
-pub mod Ports
 pub mod Splitting
+pub mod Ports
 pub mod Forward
 pub mod Stream

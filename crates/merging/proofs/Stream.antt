@@ -1,99 +1,120 @@
 -- The plain list of a list and that of its stream are the same, and demand 3 over the rules.
 use Prim.Native.Nat.{ℕ, _-_}
-use native.Mathlib.Omega.{arith}
-use mathlib.Core.Path.{_≡_, refl, sym, subst, ap, _∙_}
+use mathlib.Core.Path.{_≡_, refl, sym, subst, _∙_}
 use mathlib.Core.List.{List, [], _∷_, _++_}
-use mathlib.Core.Bool.{Bool, true, false, cond, true≢false, and-false}
+use mathlib.Core.Bool.{Bool, true, false, cond, true≢false}
 use mathlib.Core.Option.{Option, none, some}
 use lib.ListN.{length}
-use Rattle.header.specs.Reading.{headerOf}
+use Rattle.configuration.specs.declared.Configuration.{Configuration}
+use Rattle.header.specs.Reading.{headerRead}
 use Rattle.sram.specs.Region.{rightSize}
+use Rattle.sram.proofs.Laws.{stored-loaded}
+use Rattle.stages.specs.declared.Load.{Load}
 use Rattle.stages.specs.declared.Port.{Port}
-use Rattle.starts.specs.Fresh.{freshSession}
-use Rattle.items.specs.Items.{Item, wellFormed, eightUnder, dataUnder}
 use Rattle.stages.specs.Sound.{sound}
-use Rattle.items.proofs.Laws.{eight-formed, data-formed}
+use Rattle.starts.specs.Fresh.{freshSession}
+use Rattle.items.specs.declared.Role.{Role}
+use Rattle.items.specs.Items.{Item, bytesOf}
+use Rattle.items.specs.Reacting.{eightUnder, dataFitting, cleanByte, countsAs}
+use Rattle.items.proofs.Laws.{counted}
 use Rattle.answers.proofs.Laws.{Accepted}
-use Rattle.merging.specs.Running.{pickedPort, inStream, only}
-use Rattle.merging.specs.Plain.{cleanBytes, dataBytes, headerBytes, frameBytes, plainFrom}
-use Rattle.merging.specs.Merging.{Merging}
-use Rattle.merging.proofs.Ports.{Along, passed-along, run-alike, others}
+use Rattle.merging.specs.Merging.{pickedPort, inStream, only, cleanBytes, dataBytes, bytesFromHeader, bytesFromPassword, plainFrom, plainOf, plainHeader, announced, Merging}
+use Rattle.merging.proofs.Splitting.{announced-in-range}
+use Rattle.merging.proofs.Ports.{same-own, Along, passed-along, run-alike, passed-at}
 use Rattle.merging.proofs.Forward.{forward}
+
+-- what counts by a port is in its stream
+counts-inside : (role : Role) (port : Port) (item : Item) → countsAs role port item ≡ true → inStream (some port) item ≡ true
+counts-inside role port item e = let c = counted role port item e in rw (c .formed, c .own) (same-own port)
+
+outside : (test inside : Bool) → (test ≡ true → inside ≡ true) → inside ≡ false → test ≡ false
+outside true inside h e = absurd (true≢false (sym (h refl) ∙ e))
+outside false inside h e = refl
+
+-- one item of a reading that takes only what counts by a port
+module _
+    (port : Port) (reads onward : List Item → List ℕ) (test : Bool) (item : Item) (items : List Item)
+    (one : (rest : List Item) → reads (item ∷ rest) ≡ cond test (bytesOf item ++ onward rest) (reads rest))
+    (inside : test ≡ true → inStream (some port) item ≡ true)
+    (later : onward (only (inStream (some port)) items) ≡ onward items)
+    (same : reads (only (inStream (some port)) items) ≡ reads items) where
+  item-stream : (b : Bool) → inStream (some port) item ≡ b
+      → reads (only (inStream (some port)) (item ∷ items)) ≡ reads (item ∷ items)
+  unfolding only
+  item-stream true e = rw (e, one (only (inStream (some port)) items), one items, later, same)
+  item-stream false e = rw (e, one items, outside test (inStream (some port) item) inside e) same
 
 clean-stream : (items : List Item) → cleanBytes (only (inStream (some Port.Serial)) items) ≡ cleanBytes items
 unfolding only cleanBytes
 clean-stream [] = refl
-clean-stream (Item.Frame identifier frame ∷ items) = rw (and-false (wellFormed (Item.Frame identifier frame))) (clean-stream items)
-clean-stream (Item.Byte byte faulty ∷ items) = ap (λ (l : List ℕ). cond faulty l (byte ∷ l)) (clean-stream items)
+clean-stream (item ∷ items) =
+    item-stream Port.Serial cleanBytes cleanBytes (cleanByte item) item items (λ rest. refl)
+    (counts-inside Role.Password Port.Serial item) (clean-stream items) (clean-stream items)
+    (inStream (some Port.Serial) item) refl
 
-unformed : (test formed : Bool) → (test ≡ true → formed ≡ true) → formed ≡ false → test ≡ false
-unformed true formed h e = absurd (true≢false (sym (h refl) ∙ e))
-unformed false formed h e = refl
-
--- one frame of a reading of frames: those that it takes are not refused for their form
-module _
-    (reads onward : List Item → List ℕ) (test : Bool) (identifier : ℕ) (frame : List ℕ) (items : List Item)
-    (one : (rest : List Item) → reads (Item.Frame identifier frame ∷ rest) ≡ cond test (frame ++ onward rest) (reads rest))
-    (formed : test ≡ true → wellFormed (Item.Frame identifier frame) ≡ true)
-    (later : onward (only (inStream (some Port.Can)) items) ≡ onward items)
-    (same : reads (only (inStream (some Port.Can)) items) ≡ reads items) where
-  frame-stream : (b : Bool) → wellFormed (Item.Frame identifier frame) ≡ b
-      → reads (only (inStream (some Port.Can)) (Item.Frame identifier frame ∷ items)) ≡ reads (Item.Frame identifier frame ∷ items)
-  unfolding only
-  frame-stream true e =
-      rw (e, one (only (inStream (some Port.Can)) items), one items, later, same)
-  frame-stream false e =
-      rw (e, one items, unformed test (wellFormed (Item.Frame identifier frame)) formed e) same
+-- a load of which so many bytes are owed
+abbrev owing : ℕ → Load
+owing owed = record { start = record { 0 = 0 }; vle = false; next = 0; owed = owed }
 
 data-stream : (items : List Item) (owed : ℕ) → dataBytes owed (only (inStream (some Port.Can)) items) ≡ dataBytes owed items
 unfolding only dataBytes
 data-stream [] owed = refl
-data-stream (Item.Byte byte faulty ∷ items) owed = data-stream items owed
-data-stream (Item.Frame identifier frame ∷ items) owed =
-    frame-stream (dataBytes owed) (dataBytes (owed - length frame)) (dataUnder owed identifier frame) identifier frame items
-    (λ rest. refl) (data-formed owed identifier frame) (data-stream items (owed - length frame)) (data-stream items owed)
-    (wellFormed (Item.Frame identifier frame)) refl
+data-stream (item ∷ items) owed =
+    let left = owed - length (bytesOf item) in
+    item-stream Port.Can (dataBytes owed) (dataBytes left) (dataFitting owed item) item items (λ rest. refl)
+    (counts-inside (Role.Data (owing owed)) Port.Can item) (data-stream items left) (data-stream items owed)
+    (inStream (some Port.Can) item) refl
 
-header-stream : (items : List Item) → headerBytes (only (inStream (some Port.Can)) items) ≡ headerBytes items
-unfolding only headerBytes
-header-stream [] = refl
-header-stream (Item.Byte byte faulty ∷ items) = header-stream items
-header-stream (Item.Frame identifier frame ∷ items) =
-    frame-stream headerBytes (dataBytes (headerOf frame .length)) (eightUnder 0x012 identifier frame) identifier frame items
-    (λ rest. refl) (eight-formed 0x012 identifier frame (omega arith)) (data-stream items (headerOf frame .length)) (header-stream items)
-    (wellFormed (Item.Frame identifier frame)) refl
+module _ (configuration : Configuration) where
+  header-stream : (items : List Item)
+      → bytesFromHeader configuration (only (inStream (some Port.Can)) items) ≡ bytesFromHeader configuration items
+  unfolding only bytesFromHeader
+  header-stream [] = refl
+  header-stream (item ∷ items) =
+      let count = headerRead configuration (bytesOf item) .length in
+      item-stream Port.Can (bytesFromHeader configuration) (dataBytes count) (eightUnder 0x012 item) item items (λ rest. refl)
+      (counts-inside Role.Header Port.Can item) (data-stream items count) (header-stream items)
+      (inStream (some Port.Can) item) refl
 
-password-stream : (items : List Item) → frameBytes (only (inStream (some Port.Can)) items) ≡ frameBytes items
-unfolding only frameBytes
-password-stream [] = refl
-password-stream (Item.Byte byte faulty ∷ items) = password-stream items
-password-stream (Item.Frame identifier frame ∷ items) =
-    frame-stream frameBytes headerBytes (eightUnder 0x011 identifier frame) identifier frame items
-    (λ rest. refl) (eight-formed 0x011 identifier frame (omega arith)) (header-stream items) (password-stream items)
-    (wellFormed (Item.Frame identifier frame)) refl
+  frame-stream : (items : List Item)
+      → bytesFromPassword configuration (only (inStream (some Port.Can)) items) ≡ bytesFromPassword configuration items
+  unfolding only bytesFromPassword
+  frame-stream [] = refl
+  frame-stream (item ∷ items) =
+      item-stream Port.Can (bytesFromPassword configuration) (bytesFromHeader configuration) (eightUnder 0x011 item) item items (λ rest. refl)
+      (counts-inside Role.Password Port.Can item) (header-stream items) (frame-stream items)
+      (inStream (some Port.Can) item) refl
 
-plain-stream : (picked : Option Port) (items : List Item) → plainFrom picked (only (inStream picked) items) ≡ plainFrom picked items
-plain-stream none items = refl
-plain-stream (some Port.Can) items = password-stream items
-plain-stream (some Port.Serial) items = clean-stream items
+  plain-stream : (picked : Option Port) (items : List Item)
+      → plainFrom configuration picked (only (inStream picked) items) ≡ plainFrom configuration picked items
+  plain-stream none items = refl
+  plain-stream (some Port.Can) items = frame-stream items
+  plain-stream (some Port.Serial) items = clean-stream items
 
 -- demand 3
-pub demand-three : (selected sram : List ℕ) (items : List Item) → length selected ≡ 8 → rightSize sram ≡ true → Merging selected sram items
-unfolding sound
-demand-three selected sram items eight right =
-    let ok : Accepted (freshSession selected) sram = record { right = right; fine = refl } in
+pub demand-three : (configuration : Configuration) (sram : List ℕ) (items : List Item) → length (configuration .password) ≡ 8
+    → sound (freshSession configuration) ≡ true
+    → rightSize configuration sram ≡ true
+    → Merging configuration sram items
+demand-three configuration sram items eight fine right =
+    let fresh = freshSession configuration in
+    let ok : Accepted fresh sram = record { right = right; fine = fine } in
     let wanted = inStream (pickedPort items) in
-    let all = passed-along selected sram items ok in
-    let same = run-alike wanted (freshSession selected) sram items all in
-    let plain = plain-stream (pickedPort items) items in
-    let end = rw (sym plain) at (forward selected sram eight ok items) in
+    let all = passed-along configuration sram items ok in
+    let same = run-alike wanted fresh sram items all in
+    let plain = plainOf configuration items in
+    let end = rw (sym (plain-stream configuration (pickedPort items) items)) at (forward configuration sram eight ok items) in
     record {
       same-session = same .sessions;
       same-sram = same .srams;
-      same-answers = same .answers;
-      others =
-          λ before item later split e. others wanted (freshSession selected) sram before item later
-          (subst (λ (l : List Item). Along wanted (freshSession selected) sram l) split all) e;
+      same-answers = same .calls;
+      others = same .others;
+      unmoved =
+          λ before item later split e. passed-at wanted fresh sram before item later
+          (subst (λ (l : List Item). Along wanted fresh sram l) split all) e;
       jumps = end .jumps;
-      loaded = end .loads;
+      loaded =
+          λ c. rw (end .loads c)
+          (stored-loaded configuration sram (plainHeader configuration plain .start .0) (announced configuration plain) right
+          (announced-in-range configuration plain c));
     }

@@ -4,16 +4,12 @@ use mathlib.Core.List.{List, [], _∷_}
 use mathlib.Core.Bool.{Bool, true, false, cond}
 use lib.ListN.{replicate}
 use Rattle.boot.specs.declared.Mode.{Mode}
-use Rattle.boot.specs.declared.Entered.{Entered}
-use Rattle.mmu.specs.declared.Header.{Header}
-use Rattle.mmu.specs.declared.Row.{Row}
+use Rattle.configuration.specs.declared.Entered.{Entered}
+use Rattle.stages.specs.declared.Session.{Session}
+use Rattle.stages.specs.declared.Stage.{Stage}
+use Rattle.stages.specs.Sound.{sound}
 use Rattle.mmu.specs.declared.Mapping.{Mapping}
-
--- "An accepted header with VLE 1 sets VLE on entries 1 to 3; with 0 it clears it; where no header was accepted it is clear."
--- (003, 21.5.5.4, step 2: "The VLE mode bit instructs the device to program MMU entries 1-3 with VLE attribute.")
-abbrev pub vleOf : Header → Bool
-vleOf Header.NotAccepted = false
-vleOf (Header.Accepted vle) = vle
+use Rattle.mmu.specs.declared.Row.{Row}
 
 -- the attributes by the names that Table 16-2 prints
 abbrev pub cacheInhibited : Bool
@@ -93,9 +89,31 @@ hasExternalRows (Mode.Serial Entered.Directly) = false
 hasExternalRows (Mode.Serial Entered.FromInternal) = false
 hasExternalRows (Mode.Serial Entered.FromExternal) = true
 
+abbrev pub refused : ℕ → Mapping
+refused number = record { number = number; rows = noRows }
+
 -- "Asking for external boot rows gets number 11."
-unfoldable pub mappingFor : Mode → Header → Mapping
-mappingFor mode header =
-    cond (hasExternalRows mode)
-    (record { number = 11; rows = noRows })
-    (record { number = 0; rows = internalRows (vleOf header) })
+unfoldable pub mappingFor : Mode → Bool → Mapping
+mappingFor mode vle =
+    cond (hasExternalRows mode) (refused 11) (record { number = 0; rows = internalRows vle })
+
+-- The rows are asked of a choice, or of a session. Of a choice: "where no header was accepted it is clear"
+abbrev pub choiceRows : Mode → Mapping
+choiceRows mode = mappingFor mode false
+
+-- Of a session: "An accepted header with VLE 1 sets VLE on entries 1 to 3; with 0 it clears it" (003, 21.5.5.4, step 2). The header that a
+-- session has accepted is that of its load, begun or done.
+abbrev pub acceptedVle : Stage → Bool
+acceptedVle Stage.Waiting = false
+acceptedVle Stage.Password = false
+acceptedVle (Stage.Header port) = false
+acceptedVle (Stage.Data port load) = load .vle
+acceptedVle (Stage.Stopped refusal) = false
+acceptedVle (Stage.Jumped jump) = jump .vle
+
+-- how its serial boot was entered is fixed by the choice that gave it; "session not sound": number 8
+unfoldable pub sessionRows : Session → Mapping
+sessionRows session =
+    cond (sound session)
+    (mappingFor (Mode.Serial (session .configuration .entered)) (acceptedVle (session .stage)))
+    (refused 8)

@@ -1,14 +1,11 @@
-// The MMU rows (01, "MMU rows"; 000, Table 16-2) of internal boot, and of serial boot entered directly or from internal.
+// The MMU rows (01, "MMU rows"; 000, Table 16-2) of internal boot, and of serial boot entered directly or from internal: those of a choice,
+// and those of a session.
 ghost use mathlib.Core.Path.{_≡_};
-ghost use Rattle.mmu.specs.Rows.{vleOf, tableRow, internalRows, hasExternalRows, mappingFor};
-use boot::Entered;
+ghost use Rattle.mmu.specs.Rows.{tableRow, internalRows, hasExternalRows, refused, mappingFor, choiceRows, acceptedVle, sessionRows};
 use boot::Mode;
-
-// The session's header: not accepted, or accepted with its VLE bit.
-pub enum Header {
-    NotAccepted,
-    Accepted(bool),
-}
+use configuration::Entered;
+use stages::Session;
+use stages::Stage;
 
 // One MMU entry: base addresses, size in bytes, and attributes.
 pub struct Row {
@@ -22,19 +19,10 @@ pub struct Row {
     pub vle: bool,
 }
 
-// The answer: number 0 with entries 0 to 4, or number 11 with zeroes.
+// The answer: number 0 with entries 0 to 4, or number 8 or 11 with zeroes.
 pub struct Mapping {
     pub number: u8,
     pub rows: [Row; 5],
-}
-
-fn vle_of(header: Header) -> bool
-    ensures { λ r. ⌜ r ≡ vleOf header ⌝ }
-{
-    match header {
-        Header::NotAccepted => false,
-        Header::Accepted(vle) => vle,
-    }
 }
 
 // A row of the table, whose attributes are all big endian and global PID.
@@ -80,29 +68,70 @@ fn is_external(mode: Mode) -> bool
     }
 }
 
-// The MMU rows of a boot, for every input.
-pub fn rows(mode: Mode, header: Header) -> Mapping
-    ensures { λ r. ⌜ r ≡ mappingFor mode header ⌝ }
+// A number, and no rows.
+fn refuse(number: u8) -> Mapping
+    ensures { λ r. ⌜ r ≡ refused number ⌝ }
+{
+    let none = Row {
+        logical: 0,
+        physical: 0,
+        size: 0,
+        inhibited: false,
+        guarded: false,
+        bigendian: false,
+        global: false,
+        vle: false,
+    };
+    Mapping {
+        number: number,
+        rows: [none; 5],
+    }
+}
+
+// The rows of a boot, with VLE as it is.
+fn rows_for(mode: Mode, vle: bool) -> Mapping
+    ensures { λ r. ⌜ r ≡ mappingFor mode vle ⌝ }
 {
     if is_external(mode) {
-        let none = Row {
-            logical: 0,
-            physical: 0,
-            size: 0,
-            inhibited: false,
-            guarded: false,
-            bigendian: false,
-            global: false,
-            vle: false,
-        };
-        return Mapping {
-            number: 11,
-            rows: [none; 5],
-        };
+        return refuse(11);
     }
-    let rows = internal_rows(vle_of(header));
+    let rows = internal_rows(vle);
     Mapping {
         number: 0,
         rows: rows,
     }
+}
+
+// The rows of a choice: no header was accepted.
+pub fn choice_rows(mode: Mode) -> Mapping
+    ensures { λ r. ⌜ r ≡ choiceRows mode ⌝ }
+{
+    rows_for(mode, false)
+}
+
+// The VLE bit of the header that was accepted.
+fn accepted_vle(stage: Stage) -> bool
+    ensures { λ r. ⌜ r ≡ acceptedVle stage ⌝ }
+{
+    match stage {
+        Stage::Waiting => false,
+        Stage::Password => false,
+        Stage::Header(_) => false,
+        Stage::Data(_, load) => load.vle,
+        Stage::Stopped(_) => false,
+        Stage::Jumped(jump) => jump.vle,
+    }
+}
+
+// The rows of a session.
+pub fn session_rows(session: Session) -> Mapping
+    ensures { λ r. ⌜ r ≡ sessionRows session ⌝ }
+{
+    let configuration = session.configuration;
+    let entered = configuration.entered;
+    let stage = session.stage;
+    if stages::is_sound(session) {
+        return rows_for(Mode::Serial(entered), accepted_vle(stage));
+    }
+    refuse(8)
 }

@@ -1,11 +1,17 @@
--- The numbers of an answer taken apart are whole again; and how many there are.
+-- The numbers of an answer taken apart are whole again, and how many there are; and the number of how serial boot was entered is read back.
 use Prim.Native.Nat.{ℕ}
 use mathlib.Core.Path.{_≡_, refl}
 use mathlib.Core.List.{List, [], _∷_}
 use lib.ListN.{length, getD}
+use Rattle.configuration.specs.declared.Entered.{Entered}
 use Rattle.answers.specs.declared.Answer.{Answer}
 use Rattle.answers.specs.declared.Outcome.{Outcome}
-use Rattle.numbers.specs.Writing.{jumpNumbers, answerNumbers}
+use Rattle.numbers.specs.Writing.{enteredNumber, enteredOf, jumpNumbers, answerWidth, answerNumbers}
+
+pub entered-back : (entered : Entered) → enteredOf (enteredNumber entered) ≡ entered
+entered-back Entered.Directly = refl
+entered-back Entered.FromInternal = refl
+entered-back Entered.FromExternal = refl
 
 -- the first two numbers
 abbrev two : List ℕ → List ℕ
@@ -25,5 +31,5 @@ jump-length (Outcome.Stops refusal) = refl
 jump-length (Outcome.Jumps jump) = refl
 jump-length (Outcome.Refused fault) = refl
 
-pub answer-length : (answer : Answer) → length (answerNumbers answer) ≡ 13
+pub answer-length : (answer : Answer) → length (answerNumbers answer) ≡ answerWidth
 answer-length answer = rw (jump-length (answer .outcome))

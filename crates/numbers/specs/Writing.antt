@@ -1,15 +1,27 @@
--- Answers as lists of numbers, in the order of include/boot_assist.h.
+-- Answers, and what else crosses the C interface, as numbers in the order of include/boot_assist.h.
 use Prim.Native.Nat.{ℕ}
 use mathlib.Core.List.{List, [], _∷_, _++_}
 use mathlib.Core.Bool.{Bool, cond}
+use lib.Dec.{eqb}
 use Rattle.octets.specs.Read.{firstEight}
+use Rattle.configuration.specs.declared.Entered.{Entered}
 use Rattle.answers.specs.declared.Answer.{Answer}
 use Rattle.answers.specs.declared.Outcome.{Outcome}
-use Rattle.answers.specs.Answers.{numberOf}
+use Rattle.answers.specs.Answers.{outcomeNumber}
 
 -- a flag is 0 or 1
 abbrev pub bit : Bool → ℕ
 bit flag = cond flag 1 0
+
+-- how serial boot was entered: the number of the mode of its choice; and back, where any other number is read as the last
+abbrev pub enteredNumber : Entered → ℕ
+enteredNumber Entered.Directly = 2
+enteredNumber Entered.FromInternal = 3
+enteredNumber Entered.FromExternal = 4
+
+abbrev pub enteredOf : ℕ → Entered
+enteredOf number =
+    cond (eqb number 2) Entered.Directly (cond (eqb number 3) Entered.FromInternal Entered.FromExternal)
 
 -- the jump address and VLE of number 5
 abbrev pub jumpNumbers : Outcome → List ℕ
@@ -19,9 +31,12 @@ jumpNumbers (Outcome.Stops refusal) = 0 ∷ 0 ∷ []
 jumpNumbers (Outcome.Jumps jump) = jump .start .0 ∷ bit (jump .vle) ∷ []
 jumpNumbers (Outcome.Refused fault) = 0 ∷ 0 ∷ []
 
--- the 13 numbers of an answer: its number, the echo, the jump
+-- the numbers of an answer: its number, the echo, the jump
+abbrev pub answerWidth : ℕ
+answerWidth = 13
+
 abbrev pub answerNumbers : Answer → List ℕ
 answerNumbers answer =
-    (numberOf (answer .outcome) ∷ answer .echo .identifier ∷ answer .echo .length ∷ [])
+    (outcomeNumber (answer .outcome) ∷ answer .echo .identifier ∷ answer .echo .length ∷ [])
     ++ firstEight (answer .echo .bytes)
     ++ jumpNumbers (answer .outcome)

@@ -1,9 +1,13 @@
-// Answers as lists of numbers, as they cross the C interface (include/boot_assist.h).
+// Answers, and what else crosses the C interface, as numbers (include/boot_assist.h).
 ghost use mathlib.Core.Path.{_≡_};
 ghost use Rattle.octets.specs.Read.{firstEight};
-ghost use Rattle.numbers.specs.Writing.{bit, jumpNumbers, answerNumbers};
+ghost use Rattle.numbers.specs.Writing.{bit, enteredNumber, enteredOf, jumpNumbers, answerNumbers};
 use answers::Answer;
 use answers::Outcome;
+use configuration::Entered;
+
+// How many numbers an answer has.
+pub const ANSWER_WIDTH: usize = 13;
 
 // A flag as 0 or 1.
 pub fn flag(is_set: bool) -> u32
@@ -13,6 +17,28 @@ pub fn flag(is_set: bool) -> u32
         return 1;
     }
     0
+}
+
+// The number of how serial boot was entered.
+pub fn entered_number(entered: Entered) -> u32
+    ensures { λ r. ⌜ r ≡ enteredNumber entered ⌝ }
+{
+    match entered {
+        Entered::Directly => 2,
+        Entered::FromInternal => 3,
+        Entered::FromExternal => 4,
+    }
+}
+
+// How serial boot was entered, by its number.
+pub fn entered_of(number: u32) -> Entered
+    ensures { λ r. ⌜ r ≡ enteredOf number ⌝ }
+{
+    match number {
+        2 => Entered::Directly,
+        3 => Entered::FromInternal,
+        _ => Entered::FromExternal,
+    }
 }
 
 // A byte as a number, and eight of them.
@@ -51,7 +77,7 @@ fn jump_numbers(outcome: Outcome) -> [u32; 2]
 }
 
 // The numbers of an answer.
-pub fn answer_numbers(answer: Answer) -> [u32; 13]
+pub fn answer_numbers(answer: Answer) -> [u32; ANSWER_WIDTH]
     ensures { λ r. ⌜ r ≡ answerNumbers answer ⌝ }
 {
     let outcome = answer.outcome;

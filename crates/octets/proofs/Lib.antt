@@ -1,2 +1,3 @@
 pub mod Past
 pub mod Comparing
+pub mod Cases

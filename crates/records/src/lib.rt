@@ -1,63 +1,51 @@
 // What a record of a capture does (01, "The truck's capture file"): it is read and handed to the session.
 ghost use mathlib.Core.Path.{_≡_};
-ghost use Rattle.answers.specs.Answers.{asAfter};
+ghost use Rattle.answers.specs.Answers.{resultOf};
 ghost use Rattle.capture.specs.Records.{found};
-ghost use Rattle.records.specs.Handling.{leading, says, asHandles, handlesOf};
+ghost use Rattle.records.specs.Handling.{recordStep, asHandling, handlingOf};
 use answers::Outcome;
-use answers::Reply;
+use answers::StepResult;
 use stages::Session;
 
-// What the reader says of a record, its number, its kind or the end mark, and how many bytes it has; and the answer to it, with the
-// session after it.
+// What the reader found of a record: the reader's number, its kind or the end mark, and how many bytes it has; and the result of its step.
 pub struct Handled {
-    pub number: u8,
+    pub read: u8,
     pub kind: u8,
     pub taken: usize,
-    pub reply: Reply,
-}
-
-// How many bytes of a body stand before an item's own.
-fn leading_bytes(kind: u8) -> usize
-    ensures { λ r. ⌜ r ≡ leading kind ⌝ }
-{
-    if kind == 1 {
-        return 2;
-    }
-    0
+    pub result: StepResult,
 }
 
 // A record of a kind, with its body.
-fn answer_record(session: Session, sram: &mut [u8], kind: u8, body: &[u8]) -> Reply
-    ensures { λ r. ⌜ asAfter r (now (sram .exit)) ≡ says session (now (sram .entry)) kind (now (body .entry)) ⌝ }
+fn step_record(session: Session, sram: &mut [u8], kind: u8, body: &[u8]) -> StepResult
+    ensures { λ r. ⌜ resultOf r (now (sram .exit)) ≡ recordStep session (now (sram .entry)) kind (now (body .entry)) ⌝ }
 {
     if kind == 4 {
-        return answers::leave(beginnings::reset_session(), Outcome::Taken);
+        return answers::take_nothing(beginnings::reset_session(), Outcome::Taken);
     }
-    let identifier = octets::half(body, 0);
-    let from = octets::least(leading_bytes(kind), body.len());
-    rules::hand_in(session, sram, kind, identifier as u32, &body[from..])
+    let from = octets::least(items::leading_bytes(kind), body.len());
+    rules::hand_in(session, sram, items::source_in(kind, body), &body[from..])
 }
 
 // Reads the record with which the bytes begin, and hands it to the session.
 pub fn handle(bytes: &[u8], session: Session, sram: &mut [u8]) -> Handled
-    ensures { λ r. ⌜ asHandles r (now (sram .exit)) ≡ handlesOf session (now (sram .entry)) (found 0 (now (bytes .entry))) ⌝ }
+    ensures { λ r. ⌜ asHandling r (now (sram .exit)) ≡ handlingOf session (now (sram .entry)) (found 0 (now (bytes .entry))) ⌝ }
 {
-    let mut number = 0;
+    let mut read = 0;
     let mut kind = 0;
     let mut taken = 0;
-    let body = capture::read(bytes, 0, &mut number, &mut kind, &mut taken);
-    if (number != 0) | (kind == 0) {
+    let body = capture::read(bytes, 0, &mut read, &mut kind, &mut taken);
+    if (read != 0) | (kind == 0) {
         return Handled {
-            number: number,
+            read: read,
             kind: kind,
             taken: taken,
-            reply: answers::leave(session, Outcome::Ignored),
+            result: answers::take_nothing(session, Outcome::Ignored),
         };
     }
     Handled {
-        number: number,
+        read: read,
         kind: kind,
         taken: taken,
-        reply: answer_record(session, sram, kind, body),
+        result: step_record(session, sram, kind, body),
     }
 }

@@ -2,7 +2,7 @@
 // this program only reads, calls and writes.
 ghost use Prim.Native.Nat.{_≤_};
 ghost use lib.ListN.{length};
-use beginnings::Standing;
+use beginnings::Progress;
 use libc::STDERR_FILENO;
 use libc::STDIN_FILENO;
 use libc::STDOUT_FILENO;
@@ -13,10 +13,10 @@ struct Input {
     last: bool,
 }
 
-// What goes on from window to window: where the program stands, whether the input has ended, and whether the text has, or a write
-// has failed.
+// What is kept from window to window: how far the program is, whether the input has ended, and whether the text has, or a write has
+// failed.
 struct Run {
-    standing: Standing,
+    progress: Progress,
     last: bool,
     ended: bool,
 }
@@ -64,7 +64,7 @@ fn read_once(part: &mut [u8], last: bool) -> Input
     }
 }
 
-// Writes once, from a place on. A write that a signal interrupts is tried again by the caller.
+// Writes once, from a position on. A write that a signal interrupts is tried again by the caller.
 fn write_once(out: &[u8], done: usize) -> Sent {
     let from = octets::least(done, out.len());
     let part = &out[from..];
@@ -105,24 +105,24 @@ fn write_out(out: &[u8]) -> bool {
 
 // Reads behind what the window holds, plays what can be played, and writes its text.
 fn play_on(window: &mut [u8], sram: &mut [u8], out: &mut [u8], run: Run) -> Run {
-    let before = run.standing;
-    let filled = octets::least(before.left, window.len());
+    let before = run.progress;
+    let filled = octets::least(before.unread, window.len());
     let input = read_once(&mut window[filled..], run.last);
     let have = filled + input.count;
-    let standing = windows::play_window(&mut window[0..have], input.last, before, sram, out);
-    let used = octets::least(standing.used, out.len());
+    let progress = windows::play_window(&mut window[0..have], input.last, before, sram, out);
+    let used = octets::least(progress.used, out.len());
     let failed = write_out(&out[0..used]);
     Run {
-        standing: standing,
+        progress: progress,
         last: input.last,
-        ended: standing.ended | failed,
+        ended: progress.ended | failed,
     }
 }
 
 // Plays window after window until the text has ended.
 fn play_all(window: &mut [u8], sram: &mut [u8], out: &mut [u8]) {
     let mut run = Run {
-        standing: beginnings::begin(),
+        progress: beginnings::begin(),
         last: false,
         ended: false,
     };

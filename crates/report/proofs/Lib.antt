@@ -1,3 +1,3 @@
 pub mod Laws
-pub mod Going
+pub mod Continuing
 pub mod Turning

@@ -1,4 +1,4 @@
--- The loop over a window's records: what it has written so far, and what is left of the definition.
+-- The loop over a window's records: what it has written so far, and what the definition has still to give.
 use Prim.Native.Nat.{ℕ, zero, suc, _+_, _-_, _≤_, _<_}
 use native.Mathlib.Omega.{arith}
 use mathlib.Core.Path.{_≡_, refl, sym, ap, subst, _∙_}
@@ -8,28 +8,28 @@ use borrow.Author.Tests.{leb-true, ltb-true, not-true}
 use lib.Dec.{leb, ltb}
 use lib.ListN.{length, drop, length-append, length-drop}
 use Rattle.filling.specs.Write.{over}
-use Rattle.text.specs.Places.{Output, asOutput, appended}
+use Rattle.text.specs.Output.{Output, asOutput, appended}
 use Rattle.text.proofs.Laws.{appended-behind}
 use Rattle.stages.specs.declared.Session.{Session}
 use Rattle.capture.specs.Records.{found}
 use Rattle.records.specs.declared.Handled.{Handled}
-use Rattle.records.specs.Handling.{asHandles, handlesOf}
+use Rattle.records.specs.Handling.{asHandling, handlingOf}
 use Rattle.report.specs.declared.Turn.{Turn}
 use Rattle.beginnings.specs.Beginning.{Carried, keeping}
-use Rattle.report.specs.Steps.{Step, stepFrom, stepAfter}
-use Rattle.report.specs.Windows.{Playing, onward, readyIn, ready, plays, playedIn, Leaves, asLeaves, leftBy}
+use Rattle.report.specs.Printing.{Printing, printingFrom, printingAfter}
+use Rattle.report.specs.Windows.{Playing, onward, readyIn, ready, plays, playedIn, CallResult, asCallResult, resultAfter}
 use Rattle.report.specs.Turns.{asPrinted, printedAt, printedOf, turnBehind}
-use Rattle.report.proofs.Laws.{leavesWith, stepLeaves, movedOn, step-text, step-leaves}
-use Rattle.report.proofs.Going.{step-within}
+use Rattle.report.proofs.Laws.{resultWith, printingResult, movedOn, printing-text, result-printed}
+use Rattle.report.proofs.Continuing.{printing-within}
 
 -- where the definition is, of a turn with its text and what is kept besides
 abbrev pub stateOf : List ℕ → Turn → Session → List ℕ → Playing
 stateOf text turn session sram =
     record {
-      place = turn .place;
+      at = turn .at;
       text = text;
       ended = turn .ended;
-      kept = keeping (turn .number) session sram;
+      kept = keeping (turn .ordinal) session sram;
     }
 
 pub record Turning (window : List ℕ) (last : Bool) (kept : Carried) (first : List ℕ) (turn : Turn) (session : Session) (sram out : List ℕ) : Type 0 where
@@ -38,16 +38,16 @@ pub record Turning (window : List ℕ) (last : Bool) (kept : Carried) (first : L
   pub used : turn .used ≡ length text
   pub wrote : out ≡ over text first
   pub fits : length text ≤ length first
-  pub inside : turn .place ≤ length window
-  pub enough : turn .ended ≡ false → length window < turn .place + more
+  pub inside : turn .at ≤ length window
+  pub enough : turn .ended ≡ false → length window < turn .at + more
   pub same : plays more window last (length first) (stateOf text turn session sram) ≡ playedIn window last (length first) kept
 
--- how much is left
-abbrev pub leftIn : List ℕ → Turn → ℕ
-leftIn window turn = cond (turn .ended) 0 (suc (length window - turn .place))
+-- how much remains to be read: with each turn it is less
+abbrev pub remainingIn : List ℕ → Turn → ℕ
+remainingIn window turn = cond (turn .ended) 0 (suc (length window - turn .at))
 
 pub turning-first : (window : List ℕ) (last : Bool) (kept : Carried) (out : List ℕ)
-    → Turning window last kept out record { place = 0; used = 0; ended = false; number = kept .number } (kept .session) (kept .sram) out
+    → Turning window last kept out record { at = 0; used = 0; ended = false; ordinal = kept .ordinal } (kept .session) (kept .sram) out
 unfolding playedIn
 turning-first window last kept out =
     record {
@@ -63,7 +63,7 @@ turning-first window last kept out =
 
 module _ (window : List ℕ) (last : Bool) (kept : Carried) (first : List ℕ) (turn : Turn) (session : Session) (sram out : List ℕ) (here : Turning window last kept first turn session sram out) where
   abbrev Tested : Bool → Type 0
-  Tested t = t ≡ readyIn (length window - turn .place) last (length out - turn .used) (turn .ended) (turn .number)
+  Tested t = t ≡ readyIn (length window - turn .at) last (length out - turn .used) (turn .ended) (turn .ordinal)
 
   -- the output keeps its length
   pub turning-long : length out ≡ length first
@@ -77,25 +77,25 @@ module _ (window : List ℕ) (last : Bool) (kept : Carried) (first : List ℕ) (
   unfolding ready
   ready-same t e = e ∙ rw (here .used, turning-long)
 
-  -- what it says: the text goes on, and its record, its text and its number have room
+  -- what it means: the text has not ended, and the next record's text and ordinal have room
   pub turning-room : (t : Bool) → Tested t → t ≡ true
-      → (turn .ended ≡ false) × (turn .used + 96 ≤ length out) × (turn .number < 0xFFFF_FFFF_FFFF_FFFF)
+      → (turn .ended ≡ false) × (turn .used + 96 ≤ length out) × (turn .ordinal < 0xFFFF_FFFF_FFFF_FFFF)
   turning-room t e yes-ready =
-      let going = not (turn .ended) && (last || leb 14 (length window - turn .place)) in
+      let readable = not (turn .ended) && (last || leb 14 (length window - turn .at)) in
       let free = leb 96 (length out - turn .used) in
-      let number = ltb (turn .number) 0xFFFF_FFFF_FFFF_FFFF in
-      let a = and-eq-true-iff (going && free) number .0 (sym e ∙ yes-ready) in
-      let b = and-eq-true-iff going free .0 (a .0) in
-      let c = and-eq-true-iff (not (turn .ended)) (last || leb 14 (length window - turn .place)) .0 (b .0) in (
+      let counts = ltb (turn .ordinal) 0xFFFF_FFFF_FFFF_FFFF in
+      let a = and-eq-true-iff (readable && free) counts .0 (sym e ∙ yes-ready) in
+      let b = and-eq-true-iff readable free .0 (a .0) in
+      let c = and-eq-true-iff (not (turn .ended)) (last || leb 14 (length window - turn .at)) .0 (b .0) in (
         not-true (turn .ended) (c .0),
         omega (arith, leb-true 96 (length out - turn .used) (b .1)),
-        ltb-true (turn .number) 0xFFFF_FFFF_FFFF_FFFF (a .1),
+        ltb-true (turn .ordinal) 0xFFFF_FFFF_FFFF_FFFF (a .1),
       )
 
   -- when the next record can't be read the definition is done
-  pub turning-last : (t : Bool) → Tested t → t ≡ false → asLeaves record { turn = turn; session = session } sram out ≡ leftBy (playedIn window last (length first) kept) first
+  pub turning-last : (t : Bool) → Tested t → t ≡ false → asCallResult record { turn = turn; session = session } sram out ≡ resultAfter (playedIn window last (length first) kept) first
   turning-last t e stopped =
-      rw (here .wrote, here .used) (ap (λ (p : Playing). leftBy p first) (sym (done (here .more)) ∙ here .same))
+      rw (here .wrote, here .used) (ap (λ (p : Playing). resultAfter p first) (sym (done (here .more)) ∙ here .same))
     where
       done : (more : ℕ) → plays more window last (length first) (stateOf (here .text) turn session sram) ≡ stateOf (here .text) turn session sram
       done zero = refl
@@ -103,49 +103,49 @@ module _ (window : List ℕ) (last : Bool) (kept : Carried) (first : List ℕ) (
 
   -- one record more
   abbrev before : Carried
-  before = keeping (turn .number) session sram
+  before = keeping (turn .ordinal) session sram
 
-  abbrev left : List ℕ
-  left = drop (turn .place) window
+  abbrev unread : List ℕ
+  unread = drop (turn .at) window
 
   module _ (next : Turn) (next-session : Session) (next-sram next-out : List ℕ)
-      (short : length (stepFrom before left .text) ≤ 96)
-      (told : asLeaves record { turn = next; session = next-session } next-sram next-out ≡ movedOn (turn .place) (stepLeaves (stepFrom before left) (asOutput out (turn .used))))
+      (short : length (printingFrom before unread .text) ≤ 96)
+      (call-is : asCallResult record { turn = next; session = next-session } next-sram next-out ≡ movedOn (turn .at) (printingResult (printingFrom before unread) (asOutput out (turn .used))))
       (t : Bool) (e : Tested t) (yes-ready : t ≡ true) where
-    abbrev next-step : Step
-    next-step = stepFrom before left
+    abbrev next-printing : Printing
+    next-printing = printingFrom before unread
 
     abbrev text : List ℕ
-    text = here .text ++ next-step .text
+    text = here .text ++ next-printing .text
 
     long : length text ≤ length first
     long =
         let room = turning-room t e yes-ready .1 in
-        omega (arith, length-append (here .text) (next-step .text), here .used, room, short, turning-long)
+        omega (arith, length-append (here .text) (next-printing .text), here .used, room, short, turning-long)
 
-    put : appended (asOutput out (turn .used)) (next-step .text) ≡ asOutput (over text first) (length text)
+    put : appended (asOutput out (turn .used)) (next-printing .text) ≡ asOutput (over text first) (length text)
     put =
         rw (here .wrote, here .used)
-        (appended-behind (here .text) first (next-step .text) (omega (arith, long, length-append (here .text) (next-step .text))))
+        (appended-behind (here .text) first (next-printing .text) (omega (arith, long, length-append (here .text) (next-printing .text))))
 
-    -- the turn of the step, with the output that `put` says
-    turned : Output → Leaves
-    turned o = movedOn (turn .place) (leavesWith (printedAt (next-step .taken) (next-step .over) (next-step .kept .number) o) (next-step .kept))
+    -- the turn of the record's printing, with the output that `put` gives
+    turned : Output → CallResult
+    turned o = movedOn (turn .at) (resultWith (printedAt (next-printing .taken) (next-printing .over) (next-printing .kept .ordinal) o) (next-printing .kept))
 
-    all : asLeaves record { turn = next; session = next-session } next-sram next-out ≡ turned (asOutput (over text first) (length text))
+    all : asCallResult record { turn = next; session = next-session } next-sram next-out ≡ turned (asOutput (over text first) (length text))
     unfolding turned
-    all = told ∙ ap turned put
+    all = call-is ∙ ap turned put
 
-    place-is : next .place ≡ turn .place + next-step .taken
+    at-is : next .at ≡ turn .at + next-printing .taken
     unfolding turned
-    place-is = ap (λ (l : Leaves). l .played .turn .place) all
+    at-is = ap (λ (l : CallResult). l .played .turn .at) all
 
-    ended-is : next .ended ≡ next-step .over
+    ended-is : next .ended ≡ next-printing .over
     unfolding turned
-    ended-is = ap (λ (l : Leaves). l .played .turn .ended) all
+    ended-is = ap (λ (l : CallResult). l .played .turn .ended) all
 
-    within : turn .place + next-step .taken ≤ length window
-    within = omega (arith, step-within before left .0, length-drop (turn .place) window, here .inside)
+    within : turn .at + next-printing .taken ≤ length window
+    within = omega (arith, printing-within before unread .0, length-drop (turn .at) window, here .inside)
 
     plays-on : (more : ℕ) → 0 < more
         → plays (more - 1) window last (length first) (onward window (stateOf (here .text) turn session sram))
@@ -155,7 +155,7 @@ module _ (window : List ℕ) (last : Bool) (kept : Carried) (first : List ℕ) (
         let less : suc more - 1 ≡ more = omega arith in
         rw (less, ← ready-same t e, yes-ready)
 
-    some : length window < turn .place + here .more
+    some : length window < turn .at + here .more
     some = here .enough (turning-room t e yes-ready .0)
 
     pub turning-on : Turning window last kept first next next-session next-sram next-out
@@ -164,43 +164,43 @@ module _ (window : List ℕ) (last : Bool) (kept : Carried) (first : List ℕ) (
         record {
           text = text;
           more = here .more - 1;
-          used = ap (λ (l : Leaves). l .played .turn .used) all;
-          wrote = ap (λ (l : Leaves). l .out) all;
+          used = ap (λ (l : CallResult). l .played .turn .used) all;
+          wrote = ap (λ (l : CallResult). l .out) all;
           fits = long;
-          inside = omega (arith, place-is, within);
-          enough = λ goes. omega (arith, place-is, some, step-within before left .1 (sym ended-is ∙ goes));
+          inside = omega (arith, at-is, within);
+          enough = λ not-ended. omega (arith, at-is, some, printing-within before unread .1 (sym ended-is ∙ not-ended));
           same =
-              ap (λ (l : Leaves). plays (here .more - 1) window last (length first) (stateOf text (l .played .turn) (l .played .session) (l .sram))) all
+              ap (λ (l : CallResult). plays (here .more - 1) window last (length first) (stateOf text (l .played .turn) (l .played .session) (l .sram))) all
               ∙ plays-on (here .more) (omega (arith, some, here .inside))
               ∙ here .same;
         }
 
-    pub turning-less : leftIn window next < leftIn window turn
-    turning-less = rw (turning-room t e yes-ready .0, ended-is) (by-end (next-step .over) refl)
+    pub turning-less : remainingIn window next < remainingIn window turn
+    turning-less = rw (turning-room t e yes-ready .0, ended-is) (by-end (next-printing .over) refl)
       where
-        by-end : (over : Bool) → next-step .over ≡ over → cond over 0 (suc (length window - next .place)) < suc (length window - turn .place)
+        by-end : (over : Bool) → next-printing .over ≡ over → cond over 0 (suc (length window - next .at)) < suc (length window - turn .at)
         by-end true o = omega arith
-        by-end false o = omega (arith, place-is, within, step-within before left .1 o)
+        by-end false o = omega (arith, at-is, within, printing-within before unread .1 o)
 
-  -- the record at the place, handled and printed
-  module _ (handled : Handled) (told : Turn) (next-sram next-out : List ℕ)
-      (handled-is : asHandles handled next-sram ≡ handlesOf session sram (found 0 left))
-      (told-is : asPrinted told next-out ≡ printedOf (stepAfter (turn .number) (asHandles handled [])) (asOutput out (turn .used))) where
-    told-step : asLeaves record { turn = told; session = handled .reply .session } next-sram next-out ≡ stepLeaves (stepFrom before left) (asOutput out (turn .used))
-    told-step = step-leaves before (found 0 left) handled next-sram handled-is told next-out (asOutput out (turn .used)) told-is
+  -- the record at the position, handled and printed
+  module _ (handled : Handled) (printed : Turn) (next-sram next-out : List ℕ)
+      (handled-is : asHandling handled next-sram ≡ handlingOf session sram (found 0 unread))
+      (printed-is : asPrinted printed next-out ≡ printedOf (printingAfter (turn .ordinal) (asHandling handled [])) (asOutput out (turn .used))) where
+    result-is : asCallResult record { turn = printed; session = handled .result .session } next-sram next-out ≡ printingResult (printingFrom before unread) (asOutput out (turn .used))
+    result-is = result-printed before (found 0 unread) handled next-sram handled-is printed next-out (asOutput out (turn .used)) printed-is
 
     -- the turn that `report::turn_behind` makes of it
-    pub turn-told : (next : Turn) → next ≡ turnBehind (turn .place) told
-        → asLeaves record { turn = next; session = handled .reply .session } next-sram next-out
-        ≡ movedOn (turn .place) (stepLeaves (stepFrom before left) (asOutput out (turn .used)))
-    turn-told next e =
-        ap (λ (n : Turn). asLeaves record { turn = n; session = handled .reply .session } next-sram next-out) e
-        ∙ ap (movedOn (turn .place)) told-step
+    pub turn-printed : (next : Turn) → next ≡ turnBehind (turn .at) printed
+        → asCallResult record { turn = next; session = handled .result .session } next-sram next-out
+        ≡ movedOn (turn .at) (printingResult (printingFrom before unread) (asOutput out (turn .used)))
+    turn-printed next e =
+        ap (λ (n : Turn). asCallResult record { turn = n; session = handled .result .session } next-sram next-out) e
+        ∙ ap (movedOn (turn .at)) result-is
 
-    pub turn-short : length (stepAfter (turn .number) (asHandles handled []) .text) ≤ 96 → length (stepFrom before left .text) ≤ 96
-    turn-short h = subst (λ (l : List ℕ). length l ≤ 96) (step-text before (found 0 left) handled next-sram handled-is) h
+    pub turn-short : length (printingAfter (turn .ordinal) (asHandling handled []) .text) ≤ 96 → length (printingFrom before unread .text) ≤ 96
+    turn-short h = subst (λ (l : List ℕ). length l ≤ 96) (printing-text before (found 0 unread) handled next-sram handled-is) h
 
-    pub turn-within : turn .place + told .place ≤ length window
+    pub turn-within : turn .at + printed .at ≤ length window
     turn-within =
-        let taken = ap (λ (l : Leaves). l .played .turn .place) told-step in
-        omega (arith, taken, step-within before left .0, length-drop (turn .place) window, here .inside)
+        let taken = ap (λ (l : CallResult). l .played .turn .at) result-is in
+        omega (arith, taken, printing-within before unread .0, length-drop (turn .at) window, here .inside)

@@ -1,3 +1,3 @@
-pub mod Steps
+pub mod Printing
 pub mod Windows
 pub mod Turns

@@ -1,12 +1,12 @@
--- The text of a step printed, and the turn of the loop after it.
+-- The text of a record printed, and the turn of the loop after it.
 use Prim.Native.Nat.{ℕ, _+_}
 use mathlib.Core.List.{List}
 use mathlib.Core.Bool.{Bool}
-use Rattle.text.specs.Places.{Output, appended}
+use Rattle.text.specs.Output.{Output, appended}
 use Rattle.report.specs.declared.Turn.{Turn}
-use Rattle.report.specs.Steps.{Step}
+use Rattle.report.specs.Printing.{Printing}
 
--- a function that prints: the turn that it returns, and the output as it leaves it
+-- a function that prints: the turn that it returns, and the output after it
 pub record Printed : Type 0 where
   pub turn : Turn
   pub out : List ℕ
@@ -14,16 +14,16 @@ pub record Printed : Type 0 where
 abbrev pub asPrinted : Turn → List ℕ → Printed
 asPrinted turn out = record { turn = turn; out = out }
 
--- a turn with the output that it leaves
+-- a turn with the output after it
 abbrev pub printedAt : ℕ → Bool → ℕ → Output → Printed
-printedAt place ended number out =
-    asPrinted record { place = place; used = out .used; ended = ended; number = number } (out .bytes)
+printedAt at ended ordinal out =
+    asPrinted record { at = at; used = out .used; ended = ended; ordinal = ordinal } (out .bytes)
 
--- the turn of a step, with its text behind what the output holds already
-abbrev pub printedOf : Step → Output → Printed
-printedOf step out = printedAt (step .taken) (step .over) (step .kept .number) (appended out (step .text))
+-- the turn of a record's printing, with its text behind what the output holds already
+abbrev pub printedOf : Printing → Output → Printed
+printedOf printing out = printedAt (printing .taken) (printing .over) (printing .kept .ordinal) (appended out (printing .text))
 
--- a turn whose place counts from another place
+-- a turn whose position counts from another position
 abbrev pub turnBehind : ℕ → Turn → Turn
-turnBehind place told =
-    record { place = place + told .place; used = told .used; ended = told .ended; number = told .number }
+turnBehind at printed =
+    record { at = at + printed .at; used = printed .used; ended = printed .ended; ordinal = printed .ordinal }

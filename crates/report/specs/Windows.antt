@@ -8,39 +8,39 @@ use lib.Dec.{leb, ltb}
 use Rattle.filling.specs.Write.{over}
 use Rattle.beginnings.specs.Beginning.{Carried, keeping}
 use Rattle.report.specs.declared.Played.{Played}
-use Rattle.report.specs.Steps.{stepFrom, textFrom}
+use Rattle.report.specs.Printing.{printingFrom, textFrom}
 
--- Where a call is: the next place in the window, the text so far, whether it has ended, and what is kept
+-- How far a call is: the next position in the window, the text so far, whether it has ended, and what is kept
 pub record Playing : Type 0 where
-  pub place : ℕ
+  pub at : ℕ
   pub text : List ℕ
   pub ended : Bool
   pub kept : Carried
 
 -- as a call has it before the first record
 abbrev pub atFirst : Carried → Playing
-atFirst kept = record { place = 0; text = []; ended = false; kept = kept }
+atFirst kept = record { at = 0; text = []; ended = false; kept = kept }
 
 abbrev pub onward : List ℕ → Playing → Playing
 onward window p =
-    let bytes = drop (p .place) window in
+    let bytes = drop (p .at) window in
     record {
-      place = p .place + stepFrom (p .kept) bytes .taken;
-      text = p .text ++ stepFrom (p .kept) bytes .text;
-      ended = stepFrom (p .kept) bytes .over;
-      kept = stepFrom (p .kept) bytes .kept;
+      at = p .at + printingFrom (p .kept) bytes .taken;
+      text = p .text ++ printingFrom (p .kept) bytes .text;
+      ended = printingFrom (p .kept) bytes .over;
+      kept = printingFrom (p .kept) bytes .kept;
     }
 
--- A record is read where at least 14 bytes of the window are left, which is the longest record (L 12 and the two bytes of L), or where
--- the capture ends with the window. Its text, with a last line never longer than 96 bytes, must have room, and its number must not be
+-- A record is read where at least 14 bytes of the window are unread, which is the longest record (L 12 and the two bytes of L), or where
+-- the capture ends with the window. Its text, with a last line never longer than 96 bytes, must have room, and its ordinal must not be
 -- the largest that 64 bits hold.
 abbrev pub readyIn : ℕ → Bool → ℕ → Bool → ℕ → Bool
-readyIn left last room ended number =
-    not ended && (last || leb 14 left) && leb 96 room && ltb number 0xFFFF_FFFF_FFFF_FFFF
+readyIn unread last room ended ordinal =
+    not ended && (last || leb 14 unread) && leb 96 room && ltb ordinal 0xFFFF_FFFF_FFFF_FFFF
 
 unfoldable pub ready : List ℕ → Bool → ℕ → Playing → Bool
 ready window last room p =
-    readyIn (length window - p .place) last (room - length (p .text)) (p .ended) (p .kept .number)
+    readyIn (length window - p .at) last (room - length (p .text)) (p .ended) (p .kept .ordinal)
 
 -- as long as one can be read, and at most so many
 abbrev pub plays : ℕ → List ℕ → Bool → ℕ → Playing → Playing
@@ -51,24 +51,24 @@ plays (suc more) window last room p =
 unfoldable pub playedIn : List ℕ → Bool → ℕ → Carried → Playing
 playedIn window last room kept = plays (suc (length window)) window last room (atFirst kept)
 
--- a call: what it returns, and SRAM and the output as it leaves them
-pub record Leaves : Type 0 where
+-- the result of a call: what it returns, and SRAM and the output after it
+pub record CallResult : Type 0 where
   pub played : Played
   pub sram : List ℕ
   pub out : List ℕ
 
-abbrev pub asLeaves : Played → List ℕ → List ℕ → Leaves
-asLeaves played sram out = record { played = played; sram = sram; out = out }
+abbrev pub asCallResult : Played → List ℕ → List ℕ → CallResult
+asCallResult played sram out = record { played = played; sram = sram; out = out }
 
-abbrev pub leftBy : Playing → List ℕ → Leaves
-leftBy p out =
+abbrev pub resultAfter : Playing → List ℕ → CallResult
+resultAfter p out =
     record {
       played = record {
         turn = record {
-          place = p .place;
+          at = p .at;
           used = length (p .text);
           ended = p .ended;
-          number = p .kept .number;
+          ordinal = p .kept .ordinal;
         };
         session = p .kept .session;
       };
@@ -77,9 +77,9 @@ leftBy p out =
     }
 
 -- Whatever follows the window, which is nothing after the last one, the text for the capture is what this call wrote, and then the
--- text from the next place on, with what is kept by then.
-abbrev pub Goes : List ℕ → Bool → Carried → Leaves → Type 0
-Goes window last kept call =
+-- text from the next position on, with what is kept by then.
+abbrev pub Continues : List ℕ → Bool → Carried → CallResult → Type 0
+Continues window last kept call =
     let turn = call .played .turn in
     (rest : List ℕ)
     → (last ≡ true → rest ≡ [])
@@ -87,4 +87,4 @@ Goes window last kept call =
     ≡ take (turn .used) (call .out)
     ++ cond (turn .ended)
     []
-    (textFrom (keeping (turn .number) (call .played .session) (call .sram)) (drop (turn .place) window ++ rest))
+    (textFrom (keeping (turn .ordinal) (call .played .session) (call .sram)) (drop (turn .at) window ++ rest))

@@ -1,4 +1,2 @@
 pub mod Laws
 pub mod Holding
-pub mod Taking
-pub mod Handing

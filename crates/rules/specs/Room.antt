@@ -2,19 +2,20 @@
 use Prim.Native.Nat.{ℕ, _+_, _≤_}
 use mathlib.Core.Path.{_≡_}
 use mathlib.Core.Bool.{true}
+use Rattle.configuration.specs.declared.Configuration.{Configuration}
+use Rattle.sram.specs.Region.{size, base}
 use Rattle.stages.specs.declared.Load.{Load}
-use Rattle.stages.specs.declared.Stage.{Stage}
-use Rattle.stages.specs.Sound.{loadSound}
+use Rattle.stages.specs.declared.Session.{Session}
+use Rattle.stages.specs.Sound.{loadFits}
+use Rattle.items.specs.declared.Role.{Role}
 
--- of a load
-abbrev pub LoadRoom : Load → ℕ → Type 0
-LoadRoom load count = (loadSound load ≡ true) × (count ≤ load .owed)
+-- of a load, whose addresses have 32 bits
+abbrev pub LoadRoom : Configuration → Load → ℕ → Type 0
+LoadRoom configuration load count =
+    (loadFits configuration load ≡ true) × (count ≤ load .owed) × (base + size configuration ≤ 0x1_0000_0000)
 
--- of a stage that holds `held` password or header bytes
-abbrev pub Room : Stage → ℕ → ℕ → Type 0
-Room Stage.Waiting held count = held + count ≤ 8
-Room Stage.Password held count = held + count ≤ 8
-Room (Stage.Header port) held count = held + count ≤ 8
-Room (Stage.Data port load) held count = LoadRoom load count
-Room (Stage.Stopped refusal) held count = Unit {0}
-Room (Stage.Jumped jump) held count = Unit {0}
+-- by the role in which the bytes are taken
+abbrev pub Room : Role → Session → ℕ → Type 0
+Room Role.Password session count = session .count + count ≤ 8
+Room Role.Header session count = session .count + count ≤ 8
+Room (Role.Data load) session count = LoadRoom (session .configuration) load count

@@ -7,21 +7,21 @@ use lib.ListN.{length}
 use Rattle.octets.specs.Read.{firstEight}
 use Rattle.starts.specs.declared.Start.{Start}
 use Rattle.starts.specs.Fresh.{freshIn}
-use Rattle.encoding.specs.Writing.{sessionNumbers}
+use Rattle.encoding.specs.Writing.{sessionWidth, sessionNumbers}
 use Rattle.encoding.specs.Reading.{sessionIn}
 use Rattle.choices.specs.Numbers.{modeOf}
-use Rattle.batch.specs.Listing.{ListAfter, afterList}
+use Rattle.batch.specs.Listing.{ListResult, runList}
 use Rattle.calls.specs.Crossing.{Reply, asReply}
 
 -- what a list leaves: a refused one nothing but its number
-abbrev pub listLeaves : List ℕ → ListAfter → Reply
+abbrev pub listLeaves : List ℕ → ListResult → Reply
 listLeaves session next =
     asReply (next .number) (cond (eqb (next .number) 0) (sessionNumbers (next .session)) session) (next .sram) (next .answers)
 
 -- a list of items
 unfoldable pub listReply : List ℕ → List ℕ → List ℕ → List ℕ → List ℕ → List ℕ → List ℕ → Reply
 listReply session sram kinds identifiers counts bytes answers =
-    listLeaves session (afterList (sessionIn session) sram kinds identifiers counts bytes answers)
+    listLeaves session (runList (sessionIn session) sram kinds identifiers counts bytes answers)
 
 -- a fresh session: its number, and its numbers
 pub record FreshReply : Type 0 where
@@ -36,9 +36,9 @@ abbrev pub freshLeaves : Start → List ℕ → FreshReply
 freshLeaves start session =
     cond (start .serial) (asFreshReply 0 (sessionNumbers (start .session))) (asFreshReply 9 session)
 
--- for the number of a way to boot; 9 for a number that no way has, a password of another length than 8, or a session that has not 24 places
+-- for the number of a way to boot; 9 for a number that no way has, a password of another length than 8, or a session that has not its places
 unfoldable pub sessionReply : ℕ → List ℕ → List ℕ → FreshReply
 sessionReply mode password session =
-    cond (leb mode 4 && eqb (length password) 8 && eqb (length session) 24)
+    cond (leb mode 4 && eqb (length password) 8 && eqb (length session) sessionWidth)
     (freshLeaves (freshIn (modeOf mode) (firstEight password)) session)
     (asFreshReply 9 session)

@@ -2,6 +2,7 @@
 ghost use mathlib.Core.Path.{_≡_};
 ghost use Rattle.calls.specs.Crossing.{asReply};
 ghost use Rattle.runs.specs.Crossing.{listReply, asFreshReply, sessionReply};
+use encoding::SESSION_WIDTH;
 
 // A list of items.
 pub fn list(
@@ -46,7 +47,7 @@ pub fn fresh(mode: u8, password: &[u8], session: &mut [u32]) -> u8
     if password.len() != 8 {
         return 9;
     }
-    if session.len() != 24 {
+    if session.len() != SESSION_WIDTH {
         return 9;
     }
     let start = starts::fresh_in(choices::mode_of(mode), octets::first_eight(password));

@@ -4,7 +4,7 @@ use mathlib.Core.List.{List, [], _∷_, _++_}
 use lib.ListN.{replicate}
 use Rattle.text.specs.Digits.{ascii}
 use Rattle.beginnings.specs.Beginning.{beginning}
-use Rattle.report.specs.Steps.{textFrom}
+use Rattle.report.specs.Printing.{textFrom}
 use Rattle.trials.specs.Trials.{Case, trial}
 
 abbrev textOf : List ℕ → List ℕ

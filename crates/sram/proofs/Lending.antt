@@ -5,15 +5,20 @@ use mathlib.Core.Path.{_≡_, sym, _∙_}
 use mathlib.Core.List.{List}
 use borrow.Author.Tests.{eq-eqb}
 use lib.ListN.{length}
+use Rattle.configuration.specs.declared.Configuration.{Configuration}
 use Rattle.filling.specs.Write.{filled}
 use Rattle.filling.proofs.Lending.{lent, back, put-back}
-use Rattle.sram.specs.Region.{size, base, stored, storedWithin}
-use Rattle.sram.proofs.Laws.{lies-if, stored-within}
+use Rattle.sram.specs.Region.{size, base, stored, storedInRange}
+use Rattle.sram.proofs.Laws.{in-range, stored-in-range}
 
-pub sram-back : (sram : List ℕ) (address : ℕ) (bytes : List ℕ) → length sram ≡ size → base ≤ address
-    → address - base + length bytes ≤ size
-    → back sram (address - base) (filled bytes (lent sram (address - base))) ≡ storedWithin sram address bytes
+pub sram-back : (configuration : Configuration) (sram : List ℕ) (address : ℕ) (bytes : List ℕ)
+    → length sram ≡ size configuration
+    → base ≤ address
+    → address - base + length bytes ≤ size configuration
+    → back sram (address - base) (filled bytes (lent sram (address - base))) ≡ storedInRange configuration sram address bytes
 unfolding stored
-sram-back sram address bytes whole from to =
+sram-back configuration sram address bytes whole from to =
     put-back sram bytes (address - base) (omega arith)
-    ∙ sym (stored-within sram address bytes (eq-eqb (length sram) size whole) (lies-if address (length bytes) from (omega arith)))
+    ∙ sym
+    (stored-in-range configuration sram address bytes (eq-eqb (length sram) (size configuration) whole)
+    (in-range configuration address (length bytes) from (omega arith)))

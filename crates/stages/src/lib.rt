@@ -1,6 +1,7 @@
 // The stages of a serial session (01, "A serial session"): what a session holds, and when it is sound.
 ghost use mathlib.Core.Path.{_≡_};
-ghost use Rattle.stages.specs.Sound.{loadSound, sound};
+ghost use Rattle.stages.specs.Sound.{loadFits, sound};
+use configuration::Configuration;
 use sram::Aligned;
 
 // The two ports.
@@ -30,7 +31,7 @@ pub enum Refusal {
     Range,
 }
 
-// Where a session stands.
+// The stages.
 pub enum Stage {
     Waiting,
     Password,
@@ -40,23 +41,23 @@ pub enum Stage {
     Jumped(Jump),
 }
 
-// A session: the password selected by the boot choice, its stage, and the password or header bytes held so far, which are the first
-// `count` of `held`.
+// A session: what the boot choice fixed for it, its stage, and the password or header bytes held so far, which are the first `count`
+// of `held`.
 pub struct Session {
-    pub selected: [u8; 8],
-    pub stage: Stage,
+    pub configuration: Configuration,
     pub held: [u8; 8],
+    pub stage: Stage,
     pub count: u8,
 }
 
 // Whether a load's counts and addresses fit.
-fn is_load_sound(load: Load) -> bool
-    ensures { λ r. ⌜ r ≡ loadSound load ⌝ }
+fn does_load_fit(configuration: Configuration, load: Load) -> bool
+    ensures { λ r. ⌜ r ≡ loadFits configuration load ⌝ }
 {
     let start = load.start;
     (1 <= load.owed)
-        & sram::is_within(load.next, load.owed)
-        & sram::is_aligned(start)
+        & sram::is_in_range(configuration, load.next, load.owed)
+        & sram::is_aligned(configuration, start)
         & (start.0 <= load.next)
 }
 
@@ -64,6 +65,7 @@ fn is_load_sound(load: Load) -> bool
 pub fn is_sound(session: Session) -> bool
     ensures { λ r. ⌜ r ≡ sound session ⌝ }
 {
+    let configuration = session.configuration;
     let stage = session.stage;
     let count = session.count;
     match stage {
@@ -73,7 +75,7 @@ pub fn is_sound(session: Session) -> bool
             Port::Can => count == 0,
             Port::Serial => count <= 7,
         },
-        Stage::Data(_, load) => (count == 0) & is_load_sound(load),
+        Stage::Data(_, load) => (count == 0) & does_load_fit(configuration, load),
         Stage::Stopped(_) => count == 0,
         Stage::Jumped(_) => count == 0,
     }

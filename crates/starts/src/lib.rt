@@ -1,9 +1,9 @@
-// Where a session comes from, and the header that the MMU rows ask of it (01, "The words of demand 3" and "MMU rows").
+// Where a session comes from (01, "The words of demand 3").
 ghost use mathlib.Core.Path.{_≡_};
-ghost use Rattle.starts.specs.Fresh.{freshSession, noSession, freshIn, freshFrom, headerIn, acceptedIn};
-use boot::Answer;
-use boot::Choice;
+ghost use Rattle.starts.specs.Fresh.{freshSession, configured, noSession, freshIn};
 use boot::Mode;
+use configuration::Configuration;
+use configuration::Entered;
 use stages::Session;
 use stages::Stage;
 
@@ -13,16 +13,27 @@ pub struct Start {
     pub session: Session,
 }
 
-// The waiting session with a password selected.
-pub fn waiting(selected: [u8; 8]) -> Session
-    ensures { λ r. ⌜ r ≡ freshSession selected ⌝ }
+// The fresh session of a configuration.
+fn waiting(configuration: Configuration) -> Session
+    ensures { λ r. ⌜ r ≡ freshSession configuration ⌝ }
 {
     Session {
-        selected: selected,
+        configuration: configuration,
         stage: Stage::Waiting,
         held: [0; 8],
         count: 0,
     }
+}
+
+// The fresh session of serial boot, with the password selected and how it was entered.
+pub fn fresh_serial(password: [u8; 8], entered: Entered) -> Session
+    ensures { λ r. ⌜ r ≡ freshSession (configured password entered) ⌝ }
+{
+    let configuration = Configuration {
+        password: password,
+        entered: entered,
+    };
+    waiting(configuration)
 }
 
 // What stands for a session where there is none.
@@ -31,60 +42,20 @@ fn no_session() -> Start
 {
     Start {
         serial: false,
-        session: waiting([0; 8]),
+        session: fresh_serial([0; 8], Entered::Directly),
     }
 }
 
-// The fresh session of a way to boot, with the password selected.
-pub fn fresh_in(mode: Mode, selected: [u8; 8]) -> Start
-    ensures { λ r. ⌜ r ≡ freshIn mode selected ⌝ }
+// The session that a choice gives, by how the head boots and the password selected.
+pub fn fresh_in(mode: Mode, password: [u8; 8]) -> Start
+    ensures { λ r. ⌜ r ≡ freshIn mode password ⌝ }
 {
     match mode {
         Mode::Internal => no_session(),
         Mode::External => no_session(),
-        Mode::Serial(_) => Start {
+        Mode::Serial(entered) => Start {
             serial: true,
-            session: waiting(selected),
+            session: fresh_serial(password, entered),
         },
     }
-}
-
-// The fresh session that a serial boot choice gives.
-pub fn fresh(choice: Choice) -> Start
-    ensures { λ r. ⌜ r ≡ freshFrom choice ⌝ }
-{
-    let answer = choice.answer;
-    match answer {
-        Answer::Refused => no_session(),
-        Answer::Boots(boot) => {
-            let mode = boot.mode;
-            let selected = choice.password;
-            fresh_in(mode, selected)
-        }
-    }
-}
-
-// The accepted header of a stage.
-fn header_in(stage: Stage) -> mmu::Header
-    ensures { λ r. ⌜ r ≡ headerIn stage ⌝ }
-{
-    match stage {
-        Stage::Waiting => mmu::Header::NotAccepted,
-        Stage::Password => mmu::Header::NotAccepted,
-        Stage::Header(_) => mmu::Header::NotAccepted,
-        Stage::Data(_, load) => mmu::Header::Accepted(load.vle),
-        Stage::Stopped(_) => mmu::Header::NotAccepted,
-        Stage::Jumped(jump) => mmu::Header::Accepted(jump.vle),
-    }
-}
-
-// The accepted header, as the MMU rows ask for it.
-pub fn accepted(session: Session) -> mmu::Header
-    ensures { λ r. ⌜ r ≡ acceptedIn session ⌝ }
-{
-    let stage = session.stage;
-    if stages::is_sound(session) {
-        return header_in(stage);
-    }
-    mmu::Header::NotAccepted
 }

@@ -1,4 +1,4 @@
--- Text written in front of a place: nothing, one byte, several, one text in front of another; and the digits of numbers and bytes.
+-- Text written in front of a position: nothing, one byte, several, one text in front of another; and the digits of numbers and bytes.
 use Prim.Native.Nat.{ℕ, zero, suc, _+_, _-_, _*_, _/_, _≤_, _<_, min}
 use native.Mathlib.Numerals.{add-one}
 use native.Mathlib.Nat.{min-eq-left, min-eq-right}
@@ -16,16 +16,16 @@ use Rattle.answers.specs.Answers.{refusalNumber}
 use Rattle.stages.specs.declared.Stage.{Stage}
 use Rattle.text.specs.Digits.{ascii, lastDigit, decimalIn, decimal, hexOf}
 use Rattle.text.specs.Lines.{echoText, recordLine, addressBytes, lastLine}
-use Rattle.text.specs.Places.{Wrote, Output, asOutput, appended}
+use Rattle.text.specs.Output.{Wrote, Output, asOutput, appended}
 
 -- nothing
-pub nothing : (line : List ℕ) (place : ℕ) → Wrote line line [] place place
-nothing line place = record { ends = omega arith; leaves = rw append-nil (sym (take-append-drop place line)) }
+pub nothing : (line : List ℕ) (end : ℕ) → Wrote line line [] end end
+nothing line end = record { ends = omega arith; leaves = rw append-nil (sym (take-append-drop end line)) }
 
 -- one byte
-pub one : (line : List ℕ) (start place byte : ℕ) → start + 1 ≡ place → place ≤ length line
-    → Wrote line (set line start byte) (byte ∷ []) start place
-one line start place byte e h =
+pub one : (line : List ℕ) (start end byte : ℕ) → start + 1 ≡ end → end ≤ length line
+    → Wrote line (set line start byte) (byte ∷ []) start end
+one line start end byte e h =
     record {
       ends = e;
       leaves =
@@ -35,9 +35,9 @@ one line start place byte e h =
     }
 
 -- several bytes, in the part that is lent from the start on
-pub several : (line bytes : List ℕ) (start place : ℕ) → start + length bytes ≡ place → place ≤ length line
-    → Wrote line (back line start (filled bytes (lent line start))) bytes start place
-several line bytes start place e h =
+pub several : (line bytes : List ℕ) (start end : ℕ) → start + length bytes ≡ end → end ≤ length line
+    → Wrote line (back line start (filled bytes (lent line start))) bytes start end
+several line bytes start end e h =
     record {
       ends = e;
       leaves = put-back line bytes start (omega (arith, e)) ∙ ap (λ (n : ℕ). take start line ++ bytes ++ drop n line) e;
@@ -45,12 +45,12 @@ several line bytes start place e h =
 
 -- one text in front of another
 pub further
-    : {line next last : List ℕ} {text more : List ℕ} {start middle place : ℕ}
-    → place ≤ length line
-    → Wrote line next text middle place
+    : {line next last : List ℕ} {text more : List ℕ} {start middle end : ℕ}
+    → end ≤ length line
+    → Wrote line next text middle end
     → Wrote next last more start middle
-    → Wrote line last (more ++ text) start place
-further {line} {next} {last} {text} {more} {start} {middle} {place} h first second =
+    → Wrote line last (more ++ text) start end
+further {line} {next} {last} {text} {more} {start} {middle} {end} h first second =
     record {
       ends = omega (arith, first .ends, second .ends, length-append more text);
       leaves = second .leaves ∙ rw (first .leaves) joined;
@@ -60,42 +60,42 @@ further {line} {next} {last} {text} {more} {start} {middle} {place} h first seco
     many = length-take-le middle line (omega (arith, first .ends))
 
     joined
-        : take start (take middle line ++ text ++ drop place line) ++ more ++ drop middle (take middle line ++ text ++ drop place line)
-        ≡ take start line ++ (more ++ text) ++ drop place line
+        : take start (take middle line ++ text ++ drop end line) ++ more ++ drop middle (take middle line ++ text ++ drop end line)
+        ≡ take start line ++ (more ++ text) ++ drop end line
     joined =
         rw (
-          append-assoc (take middle line) text (drop place line),
-          take-append-le start (take middle line) (text ++ drop place line) (omega (arith, many, second .ends)),
+          append-assoc (take middle line) text (drop end line),
+          take-append-le start (take middle line) (text ++ drop end line) (omega (arith, many, second .ends)),
           take-take start middle line (omega (arith, second .ends)),
-          drop-at (take middle line) (text ++ drop place line) middle many,
+          drop-at (take middle line) (text ++ drop end line) middle many,
         )
-        (sym (append-assoc (take start line ++ more) text (drop place line))
-        ∙ ap (λ (l : List ℕ). l ++ drop place line) (append-assoc (take start line) more text))
+        (sym (append-assoc (take start line ++ more) text (drop end line))
+        ∙ ap (λ (l : List ℕ). l ++ drop end line) (append-assoc (take start line) more text))
 
 -- the line keeps its length
-pub wrote-length : {line next text : List ℕ} {start place : ℕ} → place ≤ length line → Wrote line next text start place
+pub wrote-length : {line next text : List ℕ} {start end : ℕ} → end ≤ length line → Wrote line next text start end
     → length next ≡ length line
-wrote-length {line} {next} {text} {start} {place} h wrote =
+wrote-length {line} {next} {text} {start} {end} h wrote =
     ap length (wrote .leaves)
-    ∙ length-append (take start line ++ text) (drop place line)
+    ∙ length-append (take start line ++ text) (drop end line)
     ∙ omega (
       arith,
       wrote .ends,
       length-append (take start line) text,
       length-take-le start line (omega (arith, wrote .ends)),
-      length-drop place line,
+      length-drop end line,
     )
 
--- The digits of a number: some are written, `rest` is left, and there may be `more` than one.
-pub record Spelling (line : List ℕ) (place n : ℕ) (now : List ℕ) (start rest more : ℕ) : Type 0 where
+-- The digits of a number: some are written, those of `rest` are not yet, and there may be `more` than one of them.
+pub record Spelling (line : List ℕ) (end n : ℕ) (now : List ℕ) (start rest more : ℕ) : Type 0 where
   pub text : List ℕ
-  pub wrote : Wrote line now text start place
-  pub goes : decimalIn more rest ++ text ≡ decimal n
-  pub room : start + 19 ≡ place + more
+  pub wrote : Wrote line now text start end
+  pub digits : decimalIn more rest ++ text ≡ decimal n
+  pub room : start + 19 ≡ end + more
 
-pub spelling-first : (line : List ℕ) (place n : ℕ) → Spelling line place n line place n 19
-spelling-first line place n =
-    record { text = []; wrote = nothing line place; goes = append-nil (decimal n); room = refl }
+pub spelling-first : (line : List ℕ) (end n : ℕ) → Spelling line end n line end n 19
+spelling-first line end n =
+    record { text = []; wrote = nothing line end; digits = append-nil (decimal n); room = refl }
 
 digit-more : (more rest : ℕ) (text : List ℕ) → 10 ≤ rest → 0 < more
     → decimalIn (more - 1) (rest / 10) ++ (lastDigit rest ∷ text) ≡ decimalIn more rest ++ text
@@ -110,19 +110,19 @@ digit-last (suc more) rest h =
     let below : leb 10 rest ≡ false = sym (and-true (leb 10 rest)) ∙ rw (← lt-ltb 0 (suc more) (omega arith)) h in
     rw below
 
-module _ {line : List ℕ} {place n : ℕ} {now : List ℕ} {start rest more : ℕ} (h : place ≤ length line) (spelling : Spelling line place n now start rest more) where
+module _ {line : List ℕ} {end n : ℕ} {now : List ℕ} {start rest more : ℕ} (h : end ≤ length line) (spelling : Spelling line end n now start rest more) where
   pub spelling-on
       : {next : List ℕ} {before : ℕ}
       → leb 10 rest && ltb 0 more ≡ true
       → Wrote now next (lastDigit rest ∷ []) before start
-      → Spelling line place n next before (rest / 10) (more - 1)
+      → Spelling line end n next before (rest / 10) (more - 1)
   spelling-on {next} {before} test wrote =
       let t = and-eq-true-iff (leb 10 rest) (ltb 0 more) .0 test in
       let some = ltb-true 0 more (t .1) in
       record {
         text = lastDigit rest ∷ spelling .text;
         wrote = further h (spelling .wrote) wrote;
-        goes = digit-more more rest (spelling .text) (leb-true 10 rest (t .0)) some ∙ spelling .goes;
+        digits = digit-more more rest (spelling .text) (leb-true 10 rest (t .0)) some ∙ spelling .digits;
         room = omega (arith, wrote .ends, spelling .room);
       }
 
@@ -130,10 +130,10 @@ module _ {line : List ℕ} {place n : ℕ} {now : List ℕ} {start rest more : �
       : {next : List ℕ} {before : ℕ}
       → leb 10 rest && ltb 0 more ≡ false
       → Wrote now next (lastDigit rest ∷ []) before start
-      → Wrote line next (decimal n) before place
+      → Wrote line next (decimal n) before end
   spelling-last {next} {before} test wrote =
       let whole : lastDigit rest ∷ spelling .text ≡ decimal n
-      = ap (λ (l : List ℕ). l ++ spelling .text) (digit-last more rest test) ∙ spelling .goes in
+      = ap (λ (l : List ℕ). l ++ spelling .text) (digit-last more rest test) ∙ spelling .digits in
       rw (← whole) (further h (spelling .wrote) wrote)
 
 pub decimal-length : (more n : ℕ) → length (decimalIn more n) ≤ more + 1
@@ -147,16 +147,16 @@ decimal-length (suc more) n = by-test (leb 10 n) (decimal-length more (n / 10))
     by-test true h = omega (arith, length-append (decimalIn more (n / 10)) (lastDigit n ∷ []), h)
     by-test false h = omega arith
 
--- The bytes from a place on, and one more in front of them.
-pub byte-more : (bytes : List ℕ) (left : ℕ) → 0 < left → left ≤ length bytes
-    → getD bytes (left - 1) 0 ∷ drop left bytes ≡ drop (left - 1) bytes
-byte-more bytes left some h =
-    let on : suc (left - 1) ≡ left = omega arith in
-    sym (drop-cons bytes (left - 1) 0 (omega arith) ∙ rw on)
+-- The bytes from a position on, and one more in front of them.
+pub byte-more : (bytes : List ℕ) (unwritten : ℕ) → 0 < unwritten → unwritten ≤ length bytes
+    → getD bytes (unwritten - 1) 0 ∷ drop unwritten bytes ≡ drop (unwritten - 1) bytes
+byte-more bytes unwritten some h =
+    let on : suc (unwritten - 1) ≡ unwritten = omega arith in
+    sym (drop-cons bytes (unwritten - 1) 0 (omega arith) ∙ rw on)
 
-pub hex-more : (bytes : List ℕ) (left : ℕ) → 0 < left → left ≤ length bytes
-    → hexOf (getD bytes (left - 1) 0 ∷ []) ++ hexOf (drop left bytes) ≡ hexOf (drop (left - 1) bytes)
-hex-more bytes left some h = ap hexOf (byte-more bytes left some h)
+pub hex-more : (bytes : List ℕ) (unwritten : ℕ) → 0 < unwritten → unwritten ≤ length bytes
+    → hexOf (getD bytes (unwritten - 1) 0 ∷ []) ++ hexOf (drop unwritten bytes) ≡ hexOf (drop (unwritten - 1) bytes)
+hex-more bytes unwritten some h = ap hexOf (byte-more bytes unwritten some h)
 
 pub hex-length : (bytes : List ℕ) → length (hexOf bytes) ≡ 2 * length bytes
 hex-length [] = refl
@@ -192,11 +192,11 @@ pub answer-text : (answer echo feed : List ℕ) → answer ++ (ascii " " ++ (ech
 answer-text answer echo feed =
     sym (append-assoc answer (ascii " ") (echo ++ feed)) ∙ sym (append-assoc (answer ++ ascii " ") echo feed)
 
-pub record-text : (number answer echo feed : List ℕ)
-    → number ++ (ascii " " ++ (answer ++ ascii " " ++ echo ++ feed)) ≡ number ++ ascii " " ++ answer ++ ascii " " ++ echo ++ feed
-record-text number answer echo feed =
-    let first = number ++ ascii " " in
-    sym (append-assoc number (ascii " ") (answer ++ ascii " " ++ echo ++ feed))
+pub record-text : (ordinal answer echo feed : List ℕ)
+    → ordinal ++ (ascii " " ++ (answer ++ ascii " " ++ echo ++ feed)) ≡ ordinal ++ ascii " " ++ answer ++ ascii " " ++ echo ++ feed
+record-text ordinal answer echo feed =
+    let first = ordinal ++ ascii " " in
+    sym (append-assoc ordinal (ascii " ") (answer ++ ascii " " ++ echo ++ feed))
     ∙ sym (append-assoc first (answer ++ ascii " " ++ echo) feed)
     ∙ ap (λ (l : List ℕ). l ++ feed) (sym (append-assoc first (answer ++ ascii " ") echo))
     ∙ ap (λ (l : List ℕ). l ++ echo ++ feed) (sym (append-assoc first answer (ascii " ")))
@@ -236,16 +236,16 @@ least-taken bytes count eight = by-test (leb count 8) refl
         ∙ sym (take-all count bytes (omega arith))
 
 -- How long the lines are.
-pub record-length : (number answer : ℕ) (echo : List ℕ) → length echo ≤ 8 → length (recordLine number answer echo) ≤ 59
-record-length number answer echo h =
+pub record-length : (ordinal answer : ℕ) (echo : List ℕ) → length echo ≤ 8 → length (recordLine ordinal answer echo) ≤ 59
+record-length ordinal answer echo h =
     let tail = decimal answer ++ ascii " " ++ echoText echo ++ ascii "\n" in
-    let told = record-text (decimal number) (decimal answer) (echoText echo) (ascii "\n") in
+    let joined = record-text (decimal ordinal) (decimal answer) (echoText echo) (ascii "\n") in
     omega (
       arith,
-      ap length told,
-      length-append (decimal number) (ascii " " ++ tail),
+      ap length joined,
+      length-append (decimal ordinal) (ascii " " ++ tail),
       length-append (ascii " ") tail,
-      decimal-length 19 number,
+      decimal-length 19 ordinal,
       answer-length answer echo h,
     )
 
@@ -271,7 +271,7 @@ last-length (Stage.Jumped jump) =
       hex-length address,
     )
 
--- Text that has room stands behind what is there.
+-- Text that has room is put behind what is there.
 pub appended-room : (bytes : List ℕ) (used : ℕ) (text : List ℕ) → used + length text ≤ length bytes
     → appended (asOutput bytes used) text ≡ asOutput (take used bytes ++ text ++ drop (used + length text) bytes) (used + length text)
 unfolding appended

@@ -1,3 +1,3 @@
 pub mod Digits
 pub mod Lines
-pub mod Places
+pub mod Output

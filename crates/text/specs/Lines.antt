@@ -12,8 +12,8 @@ echoText (byte ∷ bytes) = hexOf (byte ∷ bytes)
 
 -- "for each record its number from 1, the answer number and the echoed data .. each line with a line feed"
 abbrev pub recordLine : ℕ → ℕ → List ℕ → List ℕ
-recordLine number answer echo =
-    decimal number ++ ascii " " ++ decimal answer ++ ascii " " ++ echoText echo ++ ascii "\n"
+recordLine ordinal answer echo =
+    decimal ordinal ++ ascii " " ++ decimal answer ++ ascii " " ++ echoText echo ++ ascii "\n"
 
 -- the four bytes of an address
 abbrev pub addressBytes : ℕ → List ℕ

@@ -1,43 +1,43 @@
-// The lines of text that the program prints (01, "The truck's capture file"). A line is written from its end: each piece goes in
-// front of what stands there already.
+// The lines of text that the program prints (01, "The truck's capture file"). A line is written from its end: each piece is put
+// in front of what is there already.
 ghost use mathlib.Core.Path.{_≡_};
 ghost use Prim.Native.Nat.{_*_, _≤_, _<_};
 ghost use mathlib.Core.List.{[], _∷_, _++_};
 ghost use lib.ListN.{length, take};
 ghost use Rattle.text.specs.Digits.{ascii, decimal, hexDigit, hexOf};
 ghost use Rattle.text.specs.Lines.{echoText, recordLine, addressBytes, lastLine};
-ghost use Rattle.text.specs.Places.{Wrote, asOutput, appended};
+ghost use Rattle.text.specs.Output.{Wrote, asOutput, appended};
 use answers::Outcome;
 use stages::Jump;
 use stages::Refusal;
 use stages::Stage;
 
-// Puts one byte in front of a place, and returns where it stands.
-fn put_byte(line: &mut [u8], place: usize, byte: u8) -> usize
-    requires { ⌜ (0 < place) × (place ≤ length (now line)) ⌝ }
-    ensures { λ r. ⌜ Wrote (now (line .entry)) (now (line .exit)) (byte ∷ []) r place ⌝ }
+// Puts one byte in front of a position, the end of what is put, and returns where it starts.
+fn put_byte(line: &mut [u8], end: usize, byte: u8) -> usize
+    requires { ⌜ (0 < end) × (end ≤ length (now line)) ⌝ }
+    ensures { λ r. ⌜ Wrote (now (line .entry)) (now (line .exit)) (byte ∷ []) r end ⌝ }
 {
-    let start = place - 1;
+    let start = end - 1;
     line[start] = byte;
     start
 }
 
 // The same of several bytes.
-fn put_bytes(line: &mut [u8], place: usize, bytes: &[u8]) -> usize
-    requires { ⌜ (length (now bytes) ≤ place) × (place ≤ length (now line)) ⌝ }
-    ensures { λ r. ⌜ Wrote (now (line .entry)) (now (line .exit)) (now (bytes .entry)) r place ⌝ }
+fn put_bytes(line: &mut [u8], end: usize, bytes: &[u8]) -> usize
+    requires { ⌜ (length (now bytes) ≤ end) × (end ≤ length (now line)) ⌝ }
+    ensures { λ r. ⌜ Wrote (now (line .entry)) (now (line .exit)) (now (bytes .entry)) r end ⌝ }
 {
-    let start = place - bytes.len();
+    let start = end - bytes.len();
     filling::fill(&mut line[start..], bytes);
     start
 }
 
 // The digits of a number.
-fn put_decimal(line: &mut [u8], place: usize, n: u64) -> usize
-    requires { ⌜ (20 ≤ place) × (place ≤ length (now line)) ⌝ }
-    ensures { λ r. ⌜ Wrote (now (line .entry)) (now (line .exit)) (decimal n) r place ⌝ }
+fn put_decimal(line: &mut [u8], end: usize, n: u64) -> usize
+    requires { ⌜ (20 ≤ end) × (end ≤ length (now line)) ⌝ }
+    ensures { λ r. ⌜ Wrote (now (line .entry)) (now (line .exit)) (decimal n) r end ⌝ }
 {
-    let mut start = place;
+    let mut start = end;
     let mut rest = n;
     let mut more: usize = 19;
     while (10 <= rest) & (0 < more) {
@@ -60,24 +60,24 @@ fn hex_digit(d: u8) -> u8
 }
 
 // The two digits of a byte.
-fn put_hex_byte(line: &mut [u8], place: usize, byte: u8) -> usize
-    requires { ⌜ (2 ≤ place) × (place ≤ length (now line)) ⌝ }
-    ensures { λ r. ⌜ Wrote (now (line .entry)) (now (line .exit)) (hexOf (byte ∷ [])) r place ⌝ }
+fn put_hex_byte(line: &mut [u8], end: usize, byte: u8) -> usize
+    requires { ⌜ (2 ≤ end) × (end ≤ length (now line)) ⌝ }
+    ensures { λ r. ⌜ Wrote (now (line .entry)) (now (line .exit)) (hexOf (byte ∷ [])) r end ⌝ }
 {
-    let low = put_byte(line, place, hex_digit(byte % 16));
+    let low = put_byte(line, end, hex_digit(byte % 16));
     put_byte(line, low, hex_digit(byte / 16))
 }
 
 // The digits of several bytes.
-fn put_hex(line: &mut [u8], place: usize, bytes: &[u8]) -> usize
-    requires { ⌜ (2 * length (now bytes) ≤ place) × (place ≤ length (now line)) ⌝ }
-    ensures { λ r. ⌜ Wrote (now (line .entry)) (now (line .exit)) (hexOf (now (bytes .entry))) r place ⌝ }
+fn put_hex(line: &mut [u8], end: usize, bytes: &[u8]) -> usize
+    requires { ⌜ (2 * length (now bytes) ≤ end) × (end ≤ length (now line)) ⌝ }
+    ensures { λ r. ⌜ Wrote (now (line .entry)) (now (line .exit)) (hexOf (now (bytes .entry))) r end ⌝ }
 {
-    let mut start = place;
-    let mut left = bytes.len();
-    while 0 < left {
-        left = left - 1;
-        start = put_hex_byte(line, start, bytes[left]);
+    let mut start = end;
+    let mut unwritten = bytes.len();
+    while 0 < unwritten {
+        unwritten = unwritten - 1;
+        start = put_hex_byte(line, start, bytes[unwritten]);
     }
     start
 }
@@ -97,14 +97,14 @@ fn append(out: &mut [u8], used: usize, text: &[u8]) -> usize
 }
 
 // The echo, or "-" where there is none.
-fn put_echo(line: &mut [u8], place: usize, echo: &[u8]) -> usize
-    requires { ⌜ (length (now echo) ≤ 8) × (16 ≤ place) × (place ≤ length (now line)) ⌝ }
-    ensures { λ r. ⌜ Wrote (now (line .entry)) (now (line .exit)) (echoText (now (echo .entry))) r place ⌝ }
+fn put_echo(line: &mut [u8], end: usize, echo: &[u8]) -> usize
+    requires { ⌜ (length (now echo) ≤ 8) × (16 ≤ end) × (end ≤ length (now line)) ⌝ }
+    ensures { λ r. ⌜ Wrote (now (line .entry)) (now (line .exit)) (echoText (now (echo .entry))) r end ⌝ }
 {
     if echo.len() == 0 {
-        return put_byte(line, place, b'-');
+        return put_byte(line, end, b'-');
     }
-    put_hex(line, place, echo)
+    put_hex(line, end, echo)
 }
 
 // The end of a record's line: the answer number and the echo.
@@ -118,30 +118,30 @@ fn put_answer(line: &mut [u8], answer: u8, echo: &[u8]) -> usize
     put_decimal(line, space, answer as u64)
 }
 
-// A record's line: its number in front of that.
-fn put_record(line: &mut [u8], number: u64, answer: u8, echo: &[u8]) -> usize
+// A record's line: its ordinal in front of that.
+fn put_record(line: &mut [u8], ordinal: u64, answer: u8, echo: &[u8]) -> usize
     requires { ⌜ (length (now echo) ≤ 8) × (length (now line) ≡ 64) ⌝ }
-    ensures { λ r. ⌜ Wrote (now (line .entry)) (now (line .exit)) (recordLine number answer (now (echo .entry))) r 64 ⌝ }
+    ensures { λ r. ⌜ Wrote (now (line .entry)) (now (line .exit)) (recordLine ordinal answer (now (echo .entry))) r 64 ⌝ }
 {
     let answered = put_answer(line, answer, echo);
     let space = put_byte(line, answered, b' ');
-    put_decimal(line, space, number)
+    put_decimal(line, space, ordinal)
 }
 
 // Appends a record's line, with the first `count` of eight bytes as its echo.
 pub fn record_line(
     out: &mut [u8],
     used: usize,
-    number: u64,
+    ordinal: u64,
     answer: u8,
     bytes: [u8; 8],
     count: usize,
 ) -> usize
-    ensures { λ r. ⌜ asOutput (now (out .exit)) r ≡ appended (asOutput (now (out .entry)) used) (recordLine number answer (take count bytes)) ⌝ }
+    ensures { λ r. ⌜ asOutput (now (out .exit)) r ≡ appended (asOutput (now (out .entry)) used) (recordLine ordinal answer (take count bytes)) ⌝ }
 {
     let mut line = [0u8; 64];
     let shown = octets::least(count, 8);
-    let start = put_record(&mut line[..], number, answer, &bytes[0..shown]);
+    let start = put_record(&mut line[..], ordinal, answer, &bytes[0..shown]);
     append(out, used, &line[start..64])
 }
 
@@ -152,8 +152,8 @@ fn put_stopped(line: &mut [u8], refusal: Refusal) -> usize
 {
     let feed = put_byte(line, 64, b'\n');
     let number = answers::outcome_number(Outcome::Stops(refusal));
-    let said = put_decimal(line, feed, number as u64);
-    put_bytes(line, said, b"end stopped ")
+    let digits = put_decimal(line, feed, number as u64);
+    put_bytes(line, digits, b"end stopped ")
 }
 
 // The four bytes of an address.

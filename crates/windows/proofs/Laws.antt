@@ -1,4 +1,4 @@
--- Where the program stands after a window, by what the call that plays it leaves and by what is moved to the window's start.
+-- The result of a window, by the result of the call that plays it and by what is moved to the window's start.
 use Prim.Native.Nat.{ℕ, _-_}
 use mathlib.Core.Path.{_≡_, sym, ap, _∙_}
 use mathlib.Core.List.{List}
@@ -7,62 +7,62 @@ use lib.Seq.{take-append-seam}
 use Rattle.filling.specs.Write.{over}
 use Rattle.beginnings.specs.Beginning.{keeping}
 use Rattle.report.specs.declared.Played.{Played}
-use Rattle.report.specs.Windows.{Playing, Leaves, asLeaves, leftBy}
-use Rattle.windows.specs.Window.{Stands, asStands, standsAfter}
+use Rattle.report.specs.Windows.{Playing, CallResult, asCallResult, resultAfter}
+use Rattle.windows.specs.Window.{WindowResult, asWindowResult, afterWindow}
 
--- what is moved to the start of a list stands there
-moved-stands : (list : List ℕ) (from : ℕ) → take (length list - from) (over (drop from list) list) ≡ drop from list
-moved-stands list from =
+-- what is moved to the start of a list is there
+moved-is : (list : List ℕ) (from : ℕ) → take (length list - from) (over (drop from list) list) ≡ drop from list
+moved-is list from =
     ap (λ (n : ℕ). take n (over (drop from list) list)) (sym (length-drop from list))
     ∙ take-append-seam (drop from list) (drop (length (drop from list)) list)
 
 module _ (window out : List ℕ) where
-  -- by what the call that plays the window leaves, with its text, what is left, and how much, as given
-  abbrev standing : Leaves → List ℕ → List ℕ → ℕ → Stands
-  standing l text rest left =
+  -- by the result of the call that plays the window, with its text, what is unread, and how much, as given
+  abbrev windowResultWith : CallResult → List ℕ → List ℕ → ℕ → WindowResult
+  windowResultWith l text rest unread =
       let turn = l .played .turn in
       record {
         between = record {
           text = text;
           ended = turn .ended;
           rest = rest;
-          kept = keeping (turn .number) (l .played .session) (l .sram);
+          kept = keeping (turn .ordinal) (l .played .session) (l .sram);
         };
         used = turn .used;
-        left = left;
-        window = over (drop (turn .place) window) window;
+        unread = unread;
+        window = over (drop (turn .at) window) window;
         out = l .out;
       }
 
-  pub stands
+  pub window-played
       : (p : Playing) (played : Played) (sram′ out′ : List ℕ)
-      → asLeaves played sram′ out′ ≡ leftBy p out
-      → (left : ℕ)
-      → left ≡ length window - played .turn .place
+      → asCallResult played sram′ out′ ≡ resultAfter p out
+      → (unread : ℕ)
+      → unread ≡ length window - played .turn .at
       → (window′ : List ℕ)
-      → window′ ≡ over (drop (played .turn .place) window) window
-      → asStands
+      → window′ ≡ over (drop (played .turn .at) window) window
+      → asWindowResult
       (record {
         used = played .turn .used;
-        left = left;
+        unread = unread;
         ended = played .turn .ended;
-        number = played .turn .number;
+        ordinal = played .turn .ordinal;
         session = played .session;
       })
       window′ sram′ out′
-      ≡ standsAfter (record { text = p .text; ended = p .ended; rest = drop (p .place) window; kept = p .kept }) window out
-  stands p played sram′ out′ leaves left left-is window′ window-is =
-      let place = played .turn .place in
-      let call = asLeaves played sram′ out′ in
+      ≡ afterWindow (record { text = p .text; ended = p .ended; rest = drop (p .at) window; kept = p .kept }) window out
+  window-played p played sram′ out′ call-is unread unread-is window′ window-is =
+      let at = played .turn .at in
+      let call = asCallResult played sram′ out′ in
       let text = take (played .turn .used) out′ in
-      rw (left-is, window-is)
-      (ap (λ (rest : List ℕ). standing call text rest (length window - place)) (moved-stands window place)
-      ∙ ap (standing call text (drop place window)) (sym (length-drop place window))
+      rw (unread-is, window-is)
+      (ap (λ (rest : List ℕ). windowResultWith call text rest (length window - at)) (moved-is window at)
+      ∙ ap (windowResultWith call text (drop at window)) (sym (length-drop at window))
       ∙ ap
-      (λ (l : Leaves).
-      let rest = drop (l .played .turn .place) window in
-      standing l (take (l .played .turn .used) (l .out)) rest (length rest))
-      leaves
+      (λ (l : CallResult).
+      let rest = drop (l .played .turn .at) window in
+      windowResultWith l (take (l .played .turn .used) (l .out)) rest (length rest))
+      call-is
       ∙ ap
-      (λ (text : List ℕ). standing (leftBy p out) text (drop (p .place) window) (length (drop (p .place) window)))
+      (λ (text : List ℕ). windowResultWith (resultAfter p out) text (drop (p .at) window) (length (drop (p .at) window)))
       (take-append-seam (p .text) (drop (length (p .text)) out)))

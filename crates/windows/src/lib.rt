@@ -3,31 +3,31 @@ ghost use mathlib.Core.Path.{_≡_};
 ghost use lib.ListN.{length};
 ghost use Rattle.beginnings.specs.Beginning.{keeping};
 ghost use Rattle.joining.specs.Joining.{onWindow};
-ghost use Rattle.windows.specs.Window.{asStands, standsAfter};
-use beginnings::Standing;
+ghost use Rattle.windows.specs.Window.{asWindowResult, afterWindow};
+use beginnings::Progress;
 
-// Plays what can be played of a window, with its text at the start of the output, and moves what is left to the window's start.
+// Plays what can be played of a window, with its text at the start of the output, and moves what is unread to the window's start.
 pub fn play_window(
     window: &mut [u8],
     last: bool,
-    standing: Standing,
+    progress: Progress,
     sram: &mut [u8],
     out: &mut [u8],
-) -> Standing
+) -> Progress
     ensures { λ r. ⌜
-        asStands r (now (window .exit)) (now (sram .exit)) (now (out .exit))
-        ≡ standsAfter (onWindow (now (window .entry)) last (length (now (out .entry))) (keeping (standing .number) (standing .session) (now (sram .entry)))) (now (window .entry)) (now (out .entry))
+        asWindowResult r (now (window .exit)) (now (sram .exit)) (now (out .exit))
+        ≡ afterWindow (onWindow (now (window .entry)) last (length (now (out .entry))) (keeping (progress .ordinal) (progress .session) (now (sram .entry)))) (now (window .entry)) (now (out .entry))
         ⌝ }
 {
-    let session = standing.session;
-    let played = report::play(window, last, standing.number, session, sram, out);
+    let session = progress.session;
+    let played = report::play(window, last, progress.ordinal, session, sram, out);
     let turn = played.turn;
     let next = played.session;
-    Standing {
+    Progress {
         used: turn.used,
-        left: filling::slide(window, turn.place),
+        unread: filling::slide(window, turn.at),
         ended: turn.ended,
-        number: turn.number,
+        ordinal: turn.ordinal,
         session: next,
     }
 }

@@ -1,23 +1,24 @@
 -- `answering::rows_hold` meets its contract: by the tests of the table's rows.
 use Prim.Native.Nat.{ℕ}
-use mathlib.Core.Path.{_≡_, refl}
+use mathlib.Core.Path.{refl}
 use mathlib.Core.List.{List}
 use mathlib.Core.Bool.{Bool}
 use Rattle.sram.specs.Region.{rightSize}
 use Rattle.stages.specs.declared.Session.{Session}
+use Rattle.items.specs.declared.Reaction.{Reaction}
 use Rattle.items.specs.Items.{Item, wellFormed}
-use Rattle.items.specs.Taking.{takes}
+use Rattle.items.specs.Reacting.{reaction}
 use Rattle.stages.specs.Sound.{sound}
-use Rattle.answering.proofs.Answering.{exactly, kept, unmoved, echoed, leaves}
+use Rattle.answering.proofs.Answering.{Tested, exactly, kept, unmoved, echoed, leaves}
 use Rattle.answering.proofs.rows_hold.Statement.{statement}
 use Rattle.answering.proofs.rows_hold.Tie as tie
 
--- what holds whatever the four tests say holds
+-- what holds whatever the tests say holds
 by-tests : (session : Session) (sram : List ℕ) (item : Item) {P : Type 0}
-    → ((a b c d : Bool) → rightSize sram ≡ a → sound session ≡ b → wellFormed item ≡ c → takes (session .stage) item ≡ d → P)
+    → ((a b c : Bool) (r : Reaction) → Tested session sram item a b c r → P)
     → P
 by-tests session sram item all =
-    all (rightSize sram) (sound session) (wellFormed item) (takes (session .stage) item) refl refl refl refl
+    all (rightSize (session .configuration) sram) (sound session) (wellFormed item) (reaction (session .stage) item) (refl, refl, refl, refl)
 
 returns : tie.Need-returns
 returns c =

@@ -6,6 +6,7 @@ use lib.ListN.{length}
 use denote.Ref.{now}
 use borrow.Author.Tests.{eq-eqb, ne-eqb}
 use borrow.Author.Needs.{needs}
+use Rattle.numbers.specs.Writing.{answerWidth}
 use Rattle.batch.proofs.list_fits.Statement.{statement}
 use Rattle.batch.proofs.list_fits.Tie as tie
 
@@ -22,12 +23,12 @@ returns-2 c =
 returns-3 : tie.Need-returns-3
 returns-3 c =
     let a = c .before .before .before .before .before .before .args in
-    rw (ne-eqb (a .room) (13 * length (now (a .kinds))) (λ e. c .if3 .taken (omega arith)), and-false)
+    rw (ne-eqb (a .room) (answerWidth * length (now (a .kinds))) (λ e. c .if3 .taken (omega arith)), and-false)
 
 returns-4 : tie.Need-returns-4
 returns-4 c =
     let a = c .before .before .before .before .before .before .before .args in
-    rw (ne-eqb (a .room) (13 * length (now (a .kinds))) (λ e. c .if4 .taken (omega arith)), and-false)
+    rw (ne-eqb (a .room) (answerWidth * length (now (a .kinds))) (λ e. c .if4 .taken (omega arith)), and-false)
 
 parts-fit-requires : tie.Need-parts-fit-requires
 parts-fit-requires c κs = search needs
@@ -40,7 +41,7 @@ returns-5 c =
       c .parts-fit .ensures,
       eq-eqb (length (now (a .identifiers))) (length (now (a .kinds))) (test .before .before .before .if1 .left),
       eq-eqb (length (now (a .counts))) (length (now (a .kinds))) (test .before .before .if2 .left),
-      eq-eqb (a .room) (13 * length (now (a .kinds))) (omega (arith, test .before .if3 .left, test .if4 .left)),
+      eq-eqb (a .room) (answerWidth * length (now (a .kinds))) (omega (arith, test .before .if3 .left, test .if4 .left)),
     )
 
 pub list-fits-spec : {M : Type 1} → statement M

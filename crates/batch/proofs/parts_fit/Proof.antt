@@ -31,24 +31,24 @@ shared-slice-read-count c = omega arith
 cast-count : tie.Need-cast-count Inv-loop μ-loop
 cast-count c = omega (arith, c .shared-slice-known3 .given (c .before .before .loop .i))
 
-shared-slice-read-kind-fits : tie.Need-shared-slice-read-kind-fits Inv-loop μ-loop
-shared-slice-read-kind-fits c = omega arith
+shared-slice-read-is-item : tie.Need-shared-slice-read-is-item Inv-loop μ-loop
+shared-slice-read-is-item c = omega arith
 
-mul-kind-fits : tie.Need-mul-kind-fits Inv-loop μ-loop
-mul-kind-fits c = omega arith
+mul-is-item : tie.Need-mul-is-item Inv-loop μ-loop
+mul-is-item c = omega arith
 
-shared-slice-read-kind-fits-2 : tie.Need-shared-slice-read-kind-fits-2 Inv-loop μ-loop
-shared-slice-read-kind-fits-2 c = omega arith
+shared-slice-read-is-item-2 : tie.Need-shared-slice-read-is-item-2 Inv-loop μ-loop
+shared-slice-read-is-item-2 c = omega arith
 
-kind-fits-requires : tie.Need-kind-fits-requires Inv-loop μ-loop
-kind-fits-requires c κs = search needs
+is-item-requires : tie.Need-is-item-requires Inv-loop μ-loop
+is-item-requires c κs = search needs
 
 returns : tie.Need-returns Inv-loop μ-loop
 returns c =
     let test = c .before .before .before .before .before in
     let l = test .before .loop in
     let a = test .before .before .before .before .args in
-    let bad = sym (c .before .kind-fits .ensures) ∙ not-true (c .before .kind-fits .result) (c .if1 .taken) in
+    let bad = sym (c .before .is-item .ensures) ∙ not-true (c .before .is-item .result) (c .if1 .taken) in
     sym (l .inv .2 ∙ parts-next (now (a .kinds)) (now (a .counts)) (l .i) (test .loop-test .taken) (l .left) ∙ rw bad)
 
 returns-2 : tie.Need-returns-2 Inv-loop μ-loop
@@ -74,7 +74,7 @@ loop-again c =
     let l = test .before .loop in
     let a = test .before .before .before .before .args in
     let count = getD (now (a .counts)) (l .i) 0 in
-    let good = sym (c .before .before .kind-fits .ensures) ∙ not-false (c .before .before .kind-fits .result) (c .before .if1 .left) in (
+    let good = sym (c .before .before .is-item .ensures) ∙ not-false (c .before .before .is-item .result) (c .before .if1 .left) in (
       omega arith,
       l .inv .1,
       l .inv .2
@@ -99,10 +99,10 @@ parts-fit-spec =
     mul-count
     shared-slice-read-count
     cast-count
-    shared-slice-read-kind-fits
-    mul-kind-fits
-    shared-slice-read-kind-fits-2
-    kind-fits-requires
+    shared-slice-read-is-item
+    mul-is-item
+    shared-slice-read-is-item-2
+    is-item-requires
     returns
     returns-2
     add-i

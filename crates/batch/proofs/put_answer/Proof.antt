@@ -1,6 +1,7 @@
 -- `batch::put_answer` meets its contract: the part from the item's place on is filled and given back.
 use Prim.Native.Nat.{_*_}
 use denote.Ref.{now}
+use Rattle.numbers.specs.Writing.{answerWidth}
 use Rattle.batch.proofs.Handing.{answer-back}
 use borrow.Author.Needs.{needs}
 use Rattle.batch.proofs.put_answer.Statement.{statement}
@@ -38,7 +39,7 @@ returns c =
     let start = c .before .before .before .before .before .before .before in
     let a = start .args in
     rw (c .before .before .fill-words .ensures, c .before .before .before .before .before .answer-numbers .ensures)
-    (answer-back (now (a .answers)) (13 * a .i) (a .answer) (start .pre))
+    (answer-back (now (a .answers)) (answerWidth * a .i) (a .answer) (start .pre))
 
 pub put-answer-spec : {M : Type 1} → statement M
 put-answer-spec =

@@ -1,25 +1,25 @@
--- `batch::run` meets its contract: what is due is answered, or lists that fit are run.
+-- `batch::run` meets its contract: what the precheck refuses is answered, or lists that fit are run.
 use mathlib.Core.Path.{_≡_, sym, _∙_}
 use lib.ListN.{length}
 use denote.Ref.{now}
 use borrow.Author.Needs.{needs}
-use Rattle.answers.proofs.Laws.{nothing-due}
-use Rattle.batch.specs.Listing.{afterList}
+use Rattle.answers.proofs.Laws.{precheck-passed}
+use Rattle.batch.specs.Listing.{runList}
 use Rattle.batch.proofs.Claiming.{claimed}
 use Rattle.batch.proofs.run.Statement.{statement}
 use Rattle.batch.proofs.run.Tie as tie
 
-eight : (c : tie.Start) → length (c .args .session .selected) ≡ 8
+eight : (c : tie.Start) → length (c .args .session .configuration .password) ≡ 8
 eight c = search needs
 
 list-fits-requires : tie.Need-list-fits-requires
 list-fits-requires c κs = search needs
 
-first-due-requires : tie.Need-first-due-requires
-first-due-requires c κs = search needs
+precheck-requires : tie.Need-precheck-requires
+precheck-requires c κs = search needs
 
-enum-known-due : tie.Need-enum-known-due
-enum-known-due c = search needs
+enum-known-first : tie.Need-enum-known-first
+enum-known-first c = search needs
 
 outcome-number-requires : tie.Need-outcome-number-requires
 outcome-number-requires c κs = search needs
@@ -28,27 +28,27 @@ same-length : tie.Need-same-length
 same-length c = search needs
 
 returns : tie.Need-returns
-unfolding afterList
+unfolding runList
 returns c =
-    let told = c .before .before in
-    let test = told .before .before in
+    let checked = c .before .before in
+    let test = checked .before .before in
     let start = test .before .before .before .before .before .before .before .before .before in
     let a = start .args in
     claimed (a .session) (now (a .sram)) (now (a .kinds)) (now (a .identifiers)) (now (a .counts)) (now (a .bytes)) (now (a .answers)) _
     (eight start)
-    (rw (c .outcome-number .ensures, ← test .before .before .list-fits .ensures, ← test .first-due .ensures, told .due .given .1))
+    (rw (c .outcome-number .ensures, ← test .before .before .list-fits .ensures, ← test .precheck .ensures, checked .first .given .1))
 
 enum-told : tie.Need-enum-told
 enum-told c = search needs
 
 run-items-requires : tie.Need-run-items-requires
 run-items-requires c κs =
-    let told = c .before .before in
-    let test = told .before .before in
+    let checked = c .before .before in
+    let test = checked .before .before in
     let a = test .before .before .before .before .before .before .before .before .before .args in
     sym (test .before .before .list-fits .ensures)
-    ∙ nothing-due (a .session) (now (a .sram)) (test .before .before .list-fits .result)
-    (sym (test .first-due .ensures) ∙ told .enum-told .given .1) .1
+    ∙ precheck-passed (a .session) (now (a .sram)) (test .before .before .list-fits .result)
+    (sym (test .precheck .ensures) ∙ checked .enum-told .given .1) .1
 
 same-length-2 : tie.Need-same-length-2
 same-length-2 c = search needs
@@ -57,24 +57,24 @@ same-length-3 : tie.Need-same-length-3
 same-length-3 c = search needs
 
 returns-2 : tie.Need-returns-2
-unfolding afterList
+unfolding runList
 returns-2 c =
     let ran = c .before .before .before .before in
-    let told = ran .before .before .before in
-    let test = told .before .before in
+    let checked = ran .before .before .before in
+    let test = checked .before .before in
     let start = test .before .before .before .before .before .before .before .before .before in
     let a = start .args in
     claimed (a .session) (now (a .sram)) (now (a .kinds)) (now (a .identifiers)) (now (a .counts)) (now (a .bytes)) (now (a .answers)) _
     (eight start)
-    (rw (← test .before .before .list-fits .ensures, ← test .first-due .ensures, told .enum-told .given .1, ← ran .run-items .ensures))
+    (rw (← test .before .before .list-fits .ensures, ← test .precheck .ensures, checked .enum-told .given .1, ← ran .run-items .ensures))
 
 pub run-spec : {M : Type 1} → statement M
 run-spec =
     tie.close
     (tie.spec
     list-fits-requires
-    first-due-requires
-    enum-known-due
+    precheck-requires
+    enum-known-first
     outcome-number-requires
     same-length
     returns

@@ -42,14 +42,17 @@ cast-end c = omega (arith, c .shared-slice-known5 .given (c .before .before .loo
 add-end : tie.Need-add-end Inv-loop μ-loop
 add-end c = omega (arith, there (c .before))
 
-shared-slice-read-hand-in : tie.Need-shared-slice-read-hand-in Inv-loop μ-loop
-shared-slice-read-hand-in c = omega arith
+shared-slice-read-source-of : tie.Need-shared-slice-read-source-of Inv-loop μ-loop
+shared-slice-read-source-of c = omega arith
 
-mul-hand-in : tie.Need-mul-hand-in Inv-loop μ-loop
-mul-hand-in c = omega (arith, c .before .before .before .before .loop .inv .ids-each)
+mul-source-of : tie.Need-mul-source-of Inv-loop μ-loop
+mul-source-of c = omega (arith, c .before .before .before .loop .inv .ids-each)
 
-shared-slice-read-hand-in-2 : tie.Need-shared-slice-read-hand-in-2 Inv-loop μ-loop
-shared-slice-read-hand-in-2 c = omega (arith, c .before .before .before .before .before .loop .inv .ids-each)
+shared-slice-read-source-of-2 : tie.Need-shared-slice-read-source-of-2 Inv-loop μ-loop
+shared-slice-read-source-of-2 c = omega (arith, c .before .before .before .before .loop .inv .ids-each)
+
+source-of-requires : tie.Need-source-of-requires Inv-loop μ-loop
+source-of-requires c κs = search needs
 
 sub-hand-in : tie.Need-sub-hand-in Inv-loop μ-loop
 sub-hand-in c = omega arith
@@ -58,32 +61,33 @@ part-hand-in-start : tie.Need-part-hand-in-start Inv-loop μ-loop
 part-hand-in-start c = omega arith
 
 part-hand-in-end : tie.Need-part-hand-in-end Inv-loop μ-loop
-part-hand-in-end c = omega (arith, there (c .before .before .before .before))
+part-hand-in-end c = omega (arith, there (c .before .before .before .before .before))
 
 hand-in-requires : tie.Need-hand-in-requires Inv-loop μ-loop
 hand-in-requires c κs = search needs
 
 put-answer-requires : tie.Need-put-answer-requires Inv-loop μ-loop
-put-answer-requires c κs = omega (arith, c .before .before .before .before .before .before .before .before .before .before .before .loop .inv .room, c .before .before .before .before .before .before .before .before .before .before .loop-test .taken)
+put-answer-requires c κs = omega (arith, c .before .before .before .before .before .before .before .before .before .before .before .before .loop .inv .room, c .before .before .before .before .before .before .before .before .before .before .before .loop-test .taken)
 
 add-i : tie.Need-add-i Inv-loop μ-loop
-add-i c = omega (arith, c .before .before .before .before .before .before .before .before .before .before .before .before .before .before .loop-test .taken, c .before .before .before .before .before .before .before .before .before .before .before .before .before .before .before .before .before .before .before .before .before .before .good)
+add-i c = omega (arith, c .before .before .before .before .before .before .before .before .before .before .before .before .before .before .before .loop-test .taken, c .before .before .before .before .before .before .before .before .before .before .before .before .before .before .before .before .before .before .before .before .before .before .before .good)
 
 loop-less : tie.Need-loop-less Inv-loop μ-loop
 loop-less c = omega arith
 
 loop-again : tie.Need-loop-again Inv-loop μ-loop
 loop-again c =
-    let head = c .before .before .before .before .before .before .before .before .before .before .before .before .before .before .before in
+    let head = c .before .before .before .before .before .before .before .before .before .before .before .before .before .before .before .before in
     let l = head .loop in
     let a = head .before .before .before .before .before .before .before .args in
     let call = c .before .before .before .before .before .before .before .before in
+    let source = call .before .before .before in
     let put = c .before .before .before in
     let count = getD (now (a .counts)) (l .i) 0 in
     let many : l .at + count - l .at ≡ count = omega arith in
     turn (a .session) (now (a .sram)) (now (a .kinds)) (now (a .identifiers)) (now (a .counts)) (now (a .bytes)) (now (a .answers))
     (l .sram) (l .answers) (l .current) (l .at) (l .i) (l .inv) (call .hand-in .result) (call .hand-in .last .1 .0) (put .put-answer .last .0)
-    (c .before .before .before .before .before .before .before .before .before .before .before .before .before .before .loop-test .taken) (rw many at (call .hand-in .ensures)) (omega (arith, c .before .before .before .before .before .before .before .sram .given)) (put .put-answer .ensures)
+    (c .before .before .before .before .before .before .before .before .before .before .before .before .before .before .before .loop-test .taken) (rw (many, source .source-of .ensures) at (call .hand-in .ensures)) (omega (arith, c .before .before .before .before .before .before .before .sram .given)) (put .put-answer .ensures)
 
 same-length : tie.Need-same-length Inv-loop μ-loop
 same-length c = c .before .loop .inv .same-sram
@@ -109,9 +113,10 @@ run-items-spec =
     shared-slice-read-end
     cast-end
     add-end
-    shared-slice-read-hand-in
-    mul-hand-in
-    shared-slice-read-hand-in-2
+    shared-slice-read-source-of
+    mul-source-of
+    shared-slice-read-source-of-2
+    source-of-requires
     sub-hand-in
     part-hand-in-start
     part-hand-in-end

@@ -25,8 +25,8 @@ serial-boot-requires c κs = search needs
 enum-told-3 : tie.Need-enum-told-3
 enum-told-3 c = search needs
 
-look-at-external-requires : tie.Need-look-at-external-requires
-look-at-external-requires c κs = search needs
+examine-external-requires : tie.Need-examine-external-requires
+examine-external-requires c κs = search needs
 
 settle-requires-2 : tie.Need-settle-requires-2
 settle-requires-2 c κs = search needs
@@ -52,7 +52,7 @@ returns-3 c =
     let told = c .before .before in
     rw (
       c .settle2 .ensures,
-      c .before .look-at-external .ensures,
+      c .before .examine-external .ensures,
       told .before .before .row-for .ensures,
       told .enum-told3 .given .1,
     )
@@ -68,7 +68,7 @@ chosen-for-spec =
     enum-told-2
     serial-boot-requires
     enum-told-3
-    look-at-external-requires
+    examine-external-requires
     settle-requires-2
     returns
     returns-2

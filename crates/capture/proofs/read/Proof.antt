@@ -50,8 +50,8 @@ returns-2 c =
     let told = at-end (now (a .capture)) (a .at) (test .before .before .if1 .left) (test .if2 .taken) in
     (told .0, reached (ptr (a .capture)) (0 + (a .at + ptr (a .capture) .1)) (bodyAt (now (a .capture)) (a .at)) (omega (arith, told .1)))
 
-header-of-requires : tie.Need-header-of-requires
-header-of-requires c κs = search needs
+find-header-requires : tie.Need-find-header-requires
+find-header-requires c κs = search needs
 
 enum-known-found : tie.Need-enum-known-found
 enum-known-found c = search needs
@@ -73,7 +73,7 @@ returns-3 c =
     let header = c .before .before .before in
     let if1 = header .before .before .before in
     let a = if1 .before .before .args in
-    let told = at-bad (now (a .capture)) (a .at) (if1 .if1 .left) (omega (arith, header .before .if2 .left)) (sym (header .header-of .ensures) ∙ c .before .enum-told .given .1) in
+    let told = at-bad (now (a .capture)) (a .at) (if1 .if1 .left) (omega (arith, header .before .if2 .left)) (sym (header .find-header .ensures) ∙ c .before .enum-told .given .1) in
     (told .0, reached (ptr (a .capture)) (0 + (a .at + ptr (a .capture) .1)) (bodyAt (now (a .capture)) (a .at)) (omega (arith, told .1)))
 
 -- the body and the four bytes before it are there
@@ -81,8 +81,8 @@ room : (c : tie.After-known-told) → 4 + c .before .found .given .0 .1 .0 ≤ l
 room c =
     let header = c .before .before .before in
     let a = header .before .before .before .before .before .args in
-    let good = c .before .found .given .0 in
-    header-room (lent (now (a .capture)) (a .at)) (good .0) (good .1 .0) (sym (header .header-of .ensures) ∙ c .before .found .given .1) .0
+    let goodRecord = c .before .found .given .0 in
+    header-room (lent (now (a .capture)) (a .at)) (goodRecord .0) (goodRecord .1 .0) (sym (header .find-header .ensures) ∙ c .before .found .given .1) .0
 
 add-next : tie.Need-add-next
 add-next c = search needs
@@ -107,9 +107,9 @@ returns-4 c =
     let header = c .before .before .before .before in
     let if1 = header .before .before .before in
     let a = if1 .before .before .args in
-    let good = c .before .before .found .given .0 in
-    let told = at-good (now (a .capture)) (a .at) (good .0) (good .1 .0) (if1 .if1 .left) (sym (header .header-of .ensures) ∙ c .before .before .found .given .1) in
-    let same : 4 + good .1 .0 - 4 ≡ good .1 .0 = omega arith in
+    let goodRecord = c .before .before .found .given .0 in
+    let told = at-good (now (a .capture)) (a .at) (goodRecord .0) (goodRecord .1 .0) (if1 .if1 .left) (sym (header .find-header .ensures) ∙ c .before .before .found .given .1) in
+    let same : 4 + goodRecord .1 .0 - 4 ≡ goodRecord .1 .0 = omega arith in
     (rw same (told .0), reached (ptr (a .capture)) (4 + (a .at + ptr (a .capture) .1)) (bodyAt (now (a .capture)) (a .at)) (omega (arith, told .1)))
 
 pub read-spec : {M : Type 1} → statement M
@@ -127,7 +127,7 @@ read-spec =
     part-result-start-2
     part-result-end-2
     returns-2
-    header-of-requires
+    find-header-requires
     enum-known-found
     enum-told
     sub-result-3

@@ -1,7 +1,11 @@
 -- `choices::mode_of` meets its contract: each number is the definition's case.
 use borrow.Author.Tests.{ne-eqb}
+use borrow.Author.Needs.{needs}
 use Rattle.choices.proofs.mode_of.Statement.{statement}
 use Rattle.choices.proofs.mode_of.Tie as tie
+
+entered-of-requires : tie.Need-entered-of-requires
+entered-of-requires c κs = search needs
 
 returns : tie.Need-returns
 returns c = rw (c .match .keys1)
@@ -10,16 +14,7 @@ returns-2 : tie.Need-returns-2
 returns-2 c = rw (c .match .keys2)
 
 returns-3 : tie.Need-returns-3
-returns-3 c = rw (c .match .keys3)
-
-returns-4 : tie.Need-returns-4
-returns-4 c = rw (c .match .keys4)
-
-returns-5 : tie.Need-returns-5
-returns-5 c =
-    let n = c .before .args .number in
-    let r = c .match .rest in
-    rw (ne-eqb n 0 (r .0 .0 .0 .1), ne-eqb n 1 (r .0 .0 .1), ne-eqb n 2 (r .0 .1), ne-eqb n 3 (r .1))
+returns-3 c = rw (c .entered-of .ensures, ne-eqb _ _ (c .before .match .rest .0 .1), ne-eqb _ _ (c .before .match .rest .1))
 
 pub mode-of-spec : {M : Type 1} → statement M
-mode-of-spec = tie.close (tie.spec returns returns-2 returns-3 returns-4 returns-5)
+mode-of-spec = tie.close (tie.spec entered-of-requires returns returns-2 returns-3)

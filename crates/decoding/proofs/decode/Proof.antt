@@ -6,8 +6,8 @@ use Rattle.decoding.proofs.decode.Tie as tie
 eight-in-requires : tie.Need-eight-in-requires
 eight-in-requires c κs = search needs
 
-eight-in-requires-2 : tie.Need-eight-in-requires-2
-eight-in-requires-2 c κs = search needs
+read-configuration-requires : tie.Need-read-configuration-requires
+read-configuration-requires c κs = search needs
 
 read-stage-requires : tie.Need-read-stage-requires
 read-stage-requires c κs = search needs
@@ -19,7 +19,7 @@ returns : tie.Need-returns
 returns c =
     rw (
       c .before .before .before .eight-in .ensures,
-      c .before .before .eight-in2 .ensures,
+      c .before .before .read-configuration .ensures,
       c .before .read-stage .ensures,
       c .byte-in .ensures,
     )
@@ -27,4 +27,9 @@ returns c =
 pub decode-spec : {M : Type 1} → statement M
 decode-spec =
     tie.close
-    (tie.spec eight-in-requires eight-in-requires-2 read-stage-requires byte-in-requires returns)
+    (tie.spec
+    eight-in-requires
+    read-configuration-requires
+    read-stage-requires
+    byte-in-requires
+    returns)

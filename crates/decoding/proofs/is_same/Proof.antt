@@ -7,12 +7,13 @@ use denote.Ref.{now}
 use borrow.Author.Needs.{needs}
 use Rattle.octets.specs.Same.{same}
 use Rattle.octets.proofs.Comparing.{same-on, same-differs, same-none}
+use Rattle.encoding.specs.Writing.{sessionWidth}
 use Rattle.encoding.proofs.Lengths.{same-length}
 use Rattle.decoding.proofs.is_same.Statement.{statement}
 use Rattle.decoding.proofs.is_same.Tie as tie
 
 abbrev Inv-loop : tie.InvT-loop
-Inv-loop b a i₀ i = (i ≤ length a) × (length a ≡ 24) × (same a b ≡ same (drop i a) (drop i b))
+Inv-loop b a i₀ i = (i ≤ length a) × (length a ≡ sessionWidth) × (same a b ≡ same (drop i a) (drop i b))
 
 abbrev μ-loop : tie.MeasureT-loop
 μ-loop b a i₀ i = length a - i
@@ -20,7 +21,7 @@ abbrev μ-loop : tie.MeasureT-loop
 returns : tie.Need-returns Inv-loop μ-loop
 returns c =
     let a = c .before .args in
-    let l : length (a .t1) ≡ 24 = search needs in
+    let l : length (a .t1) ≡ sessionWidth = search needs in
     sym (same-length (a .t1) (now (a .b)) (λ e. omega arith))
 
 loop-holds : tie.Need-loop-holds Inv-loop μ-loop

@@ -1,9 +1,19 @@
 -- `encoding::session_numbers` meets its contract: each number is what its function ensures, and the session's arrays hold eight bytes each.
-use borrow.Author.Needs.{needs}
-use Rattle.encoding.proofs.Back.{encoding}
+use Rattle.encoding.proofs.Back.{Stored, encoding}
 use Rattle.encoding.proofs.Whole.{session-whole}
+use borrow.Author.Needs.{needs}
 use Rattle.encoding.proofs.session_numbers.Statement.{statement}
 use Rattle.encoding.proofs.session_numbers.Tie as tie
+
+memory : (c : tie.Start) → Stored (c .args .session)
+memory c =
+    record {
+      password-eight = search needs;
+      password-bytes = λ i. search needs;
+      held-eight = search needs;
+      held-bytes = λ i. search needs;
+      count-byte = search needs;
+    }
 
 eight-numbers-requires : tie.Need-eight-numbers-requires
 eight-numbers-requires c κs = search needs
@@ -14,8 +24,8 @@ eight-numbers-requires-2 c κs = search needs
 load-numbers-requires : tie.Need-load-numbers-requires
 load-numbers-requires c κs = search needs
 
-array-read-t12 : tie.Need-array-read-t12
-array-read-t12 c = search needs
+configuration-numbers-requires : tie.Need-configuration-numbers-requires
+configuration-numbers-requires c κs = search needs
 
 array-read-t15 : tie.Need-array-read-t15
 array-read-t15 c = search needs
@@ -38,6 +48,9 @@ array-read-t30 c = search needs
 array-read-t33 : tie.Need-array-read-t33
 array-read-t33 c = search needs
 
+array-read-t36 : tie.Need-array-read-t36
+array-read-t36 c = search needs
+
 stage-number-requires : tie.Need-stage-number-requires
 stage-number-requires c κs = search needs
 
@@ -46,9 +59,6 @@ port-in-requires c κs = search needs
 
 wide-requires : tie.Need-wide-requires
 wide-requires c κs = search needs
-
-array-read-t39 : tie.Need-array-read-t39
-array-read-t39 c = search needs
 
 array-read-t42 : tie.Need-array-read-t42
 array-read-t42 c = search needs
@@ -86,10 +96,17 @@ array-read-t72 c = search needs
 array-read-t75 : tie.Need-array-read-t75
 array-read-t75 c = search needs
 
+array-read-t78 : tie.Need-array-read-t78
+array-read-t78 c = search needs
+
+array-read-t81 : tie.Need-array-read-t81
+array-read-t81 c = search needs
+
 returns : tie.Need-returns
 returns c =
-    let loaded = c .before .before .before in
-    let start = loaded .before .before .before .before .before in
+    let last = c .before .before .before in
+    let loaded = last .before in
+    let start = loaded .before .before .before .before .before .before in
     let s = start .args .session in
     encoding s
     (session-whole s
@@ -98,12 +115,9 @@ returns c =
     (c .before .port-in .ensures)
     (c .wide .ensures)
     (loaded .before .eight-numbers2 .ensures)
-    (loaded .load-numbers .ensures))
-    (search needs)
-    (λ i. search needs)
-    (search needs)
-    (λ i. search needs)
-    (search needs)
+    (loaded .load-numbers .ensures)
+    (last .configuration-numbers .ensures))
+    (memory start)
 
 pub session-numbers-spec : {M : Type 1} → statement M
 session-numbers-spec =
@@ -112,7 +126,7 @@ session-numbers-spec =
     eight-numbers-requires
     eight-numbers-requires-2
     load-numbers-requires
-    array-read-t12
+    configuration-numbers-requires
     array-read-t15
     array-read-t18
     array-read-t21
@@ -120,10 +134,10 @@ session-numbers-spec =
     array-read-t27
     array-read-t30
     array-read-t33
+    array-read-t36
     stage-number-requires
     port-in-requires
     wide-requires
-    array-read-t39
     array-read-t42
     array-read-t45
     array-read-t48
@@ -136,4 +150,6 @@ session-numbers-spec =
     array-read-t69
     array-read-t72
     array-read-t75
+    array-read-t78
+    array-read-t81
     returns)

@@ -1,15 +1,15 @@
--- `joining::every_capture` meets its contract: a call leaves the whole text as it was.
+-- `joining::every_capture` meets its contract: a call does not change the whole text.
 use Prim.Native.Nat.{ℕ, zero, suc}
 use mathlib.Core.Path.{_≡_, refl, sym, ap, _∙_}
 use mathlib.Core.List.{List, [], _∷_, _++_, append-nil, append-assoc}
 use mathlib.Core.Bool.{Bool, true, false, cond}
 use lib.ListN.{length, drop, replicate}
 use Rattle.beginnings.specs.Beginning.{beginning}
-use Rattle.report.specs.Steps.{textFrom}
+use Rattle.report.specs.Printing.{textFrom}
 use Rattle.report.specs.Windows.{playedIn}
-use Rattle.report.proofs.Going.{played-whole}
+use Rattle.report.proofs.Continuing.{played-whole}
 use Rattle.joining.specs.Joining.{Reading, Between, captureOf, Ordered, windowOf, called, calls, wholeText, atEnd, atStart, toTheEnd}
-use Rattle.joining.proofs.Ending.{call-goes-on, text-ends}
+use Rattle.joining.proofs.Ending.{call-advances, text-ends}
 use Rattle.joining.proofs.every_capture.Statement.{statement}
 use Rattle.joining.proofs.every_capture.Tie as tie
 
@@ -26,7 +26,7 @@ module _ (room : ℕ) where
           rw e
           (ap (λ (l : List ℕ). b .text ++ textFrom (b .kept) l) (sym (append-assoc (b .rest) (reading .bytes) later))
           ∙ ap (λ (l : List ℕ). b .text ++ l) (played-whole window (reading .last) room later none (b .kept))
-          ∙ sym (append-assoc (b .text) (p .text) (cond (p .ended) [] (textFrom (p .kept) (drop (p .place) window ++ later)))))
+          ∙ sym (append-assoc (b .text) (p .text) (cond (p .ended) [] (textFrom (p .kept) (drop (p .at) window ++ later)))))
 
   calls-keep : (b : Between) (done later : List Reading) → Ordered (done ++ later)
       → wholeText b (captureOf (done ++ later)) ≡ wholeText (calls room b done) (captureOf later)
@@ -56,7 +56,7 @@ returns : tie.Need-returns
 returns c =
     record {
       so-far = λ room done later ordered. calls-keep room atStart done later ordered;
-      goes-on = call-goes-on;
+      advances = call-advances;
       whole = λ room readings ordered wide small.
           let all = toTheEnd readings in
           let n = suc (length (captureOf readings)) in

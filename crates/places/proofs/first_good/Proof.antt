@@ -1,17 +1,17 @@
--- `places::first_good` meets its contract: with i places looked at, the walk over all is the walk over the rest.
+-- `places::first_good` meets its contract: with i places examined, the search of all is the search of the rest.
 use Prim.Native.Nat.{_≤_, _-_}
 use native.Mathlib.Omega.{arith}
 use mathlib.Core.Path.{_≡_, refl, sym, _∙_}
 use lib.ListN.{drop}
 use denote.Ref.{now}
 use borrow.Author.Needs.{needs}
-use Rattle.places.specs.Places.{flashPlaces, walk}
-use Rattle.places.proofs.Walk.{walk-found, walk-on, walk-none}
+use Rattle.places.specs.Places.{flashPlaces, searched}
+use Rattle.places.proofs.Searching.{search-found, search-on, search-none}
 use Rattle.places.proofs.first_good.Statement.{statement}
 use Rattle.places.proofs.first_good.Tie as tie
 
 abbrev Inv-loop : tie.InvT-loop
-Inv-loop flash i₀ i = (i ≤ 6) × (walk flash 0 flashPlaces ≡ walk flash i (drop i flashPlaces))
+Inv-loop flash i₀ i = (i ≤ 6) × (searched flash 0 flashPlaces ≡ searched flash i (drop i flashPlaces))
 
 abbrev μ-loop : tie.MeasureT-loop
 μ-loop flash i₀ i = 6 - i
@@ -28,8 +28,8 @@ mul-place c = omega arith
 array-read-place : tie.Need-array-read-place Inv-loop μ-loop
 array-read-place c = omega arith
 
-is-good-requires : tie.Need-is-good-requires Inv-loop μ-loop
-is-good-requires c κs = search needs
+is-good-place-requires : tie.Need-is-good-place-requires Inv-loop μ-loop
+is-good-place-requires c κs = search needs
 
 add-t14 : tie.Need-add-t14 Inv-loop μ-loop
 add-t14 c = omega arith
@@ -45,23 +45,23 @@ unfolding flashPlaces
 loop-again c =
     let loop = c .before .before .before .loop in
     let flash = now (c .before .before .before .before .before .args .flash) in
-    let bad = sym (c .before .is-good .ensures) ∙ c .if2 .left in
-    (omega arith, loop .inv .1 ∙ walk-on flash flashPlaces (loop .i) (c .before .before .if1 .left) bad)
+    let bad = sym (c .before .is-good-place .ensures) ∙ c .if2 .left in
+    (omega arith, loop .inv .1 ∙ search-on flash flashPlaces (loop .i) (c .before .before .if1 .left) bad)
 
 returns : tie.Need-returns Inv-loop μ-loop
 unfolding flashPlaces
 returns c =
     let loop = c .before .loop in
     let flash = now (c .before .before .before .args .flash) in
-    sym (loop .inv .1 ∙ walk-none flash flashPlaces (loop .i) (c .if1 .taken))
+    sym (loop .inv .1 ∙ search-none flash flashPlaces (loop .i) (c .if1 .taken))
 
 returns-2 : tie.Need-returns-2 Inv-loop μ-loop
 unfolding flashPlaces
 returns-2 c =
     let loop = c .before .before .before .loop in
     let flash = now (c .before .before .before .before .before .args .flash) in
-    let found = sym (c .before .is-good .ensures) ∙ c .if2 .taken in
-    sym (loop .inv .1 ∙ walk-found flash flashPlaces (loop .i) (c .before .before .if1 .left) found)
+    let found = sym (c .before .is-good-place .ensures) ∙ c .if2 .taken in
+    sym (loop .inv .1 ∙ search-found flash flashPlaces (loop .i) (c .before .before .if1 .left) found)
 
 pub first-good-spec : {M : Type 1} → statement M
 first-good-spec =
@@ -73,7 +73,7 @@ first-good-spec =
     cast-place
     mul-place
     array-read-place
-    is-good-requires
+    is-good-place-requires
     add-t14
     add-i
     loop-less

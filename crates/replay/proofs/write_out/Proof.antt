@@ -25,8 +25,8 @@ some : (c : tie.After-write-once Inv-loop μ-loop) → 0 < c .before .before .be
 some c =
     let l = c .before .before .before .before .loop in
     let out = now (c .before .before .before .before .before .before .args .out) in
-    let going = not (l .sent .failed) && ltb (l .sent .done) (length out) in
-    ltb-true 0 (l .turns) (and-eq-true-iff going (ltb 0 (l .turns)) .0 (c .before .if1 .taken) .1)
+    let unsent = not (l .sent .failed) && ltb (l .sent .done) (length out) in
+    ltb-true 0 (l .turns) (and-eq-true-iff unsent (ltb 0 (l .turns)) .0 (c .before .if1 .taken) .1)
 
 sub-turns : tie.Need-sub-turns Inv-loop μ-loop
 sub-turns c = omega (arith, some c)

@@ -6,17 +6,17 @@ use mathlib.Core.Path.{ap, _∙_}
 use mathlib.Core.List.{[]}
 use lib.ListN.{length, length-append}
 use denote.Ref.{now}
-use Rattle.answers.specs.Answers.{numberOf}
-use Rattle.records.specs.Handling.{asHandles}
+use Rattle.answers.specs.Answers.{outcomeNumber}
+use Rattle.records.specs.Handling.{asHandling}
 use Rattle.text.specs.Lines.{recordLine}
-use Rattle.text.specs.Places.{asOutput}
+use Rattle.text.specs.Output.{asOutput}
 use Rattle.text.proofs.Laws.{record-length, last-length}
 use Rattle.report.proofs.print_handled.Statement.{statement}
 use Rattle.report.proofs.print_handled.Tie as tie
 use Rattle.beginnings.specs.Beginning.{keeping}
-use Rattle.report.specs.Steps.{Step, echoed, closing}
+use Rattle.report.specs.Printing.{Printing, echoBytes, closing}
 use Rattle.report.specs.Turns.{printedOf}
-use Rattle.report.proofs.Laws.{told-bad, told-end, told-record, last-behind}
+use Rattle.report.proofs.Laws.{printing-bad, printing-end, printing-record, last-behind}
 
 record-line-requires : tie.Need-record-line-requires
 record-line-requires c κs = search needs
@@ -33,17 +33,17 @@ returns c =
     let test = line .before .before in
     let start = test .before .before .before .before .before .before in
     let a = start .args in
-    let session = a .handled .reply .session in
-    let kept = keeping (a .number) session [] in
-    let text = recordLine (a .number) (a .handled .number) [] in
-    let long : length text ≤ 59 = record-length (a .number) (a .handled .number) [] (omega arith) in
+    let session = a .handled .result .session in
+    let kept = keeping (a .ordinal) session [] in
+    let text = recordLine (a .ordinal) (a .handled .read) [] in
+    let long : length text ≤ 59 = record-length (a .ordinal) (a .handled .read) [] (omega arith) in
     let short = last-length (session .stage) in
-    let bad = told-bad (a .number) (asHandles (a .handled) []) (test .if1 .taken) in (
-      last-behind (a .number) (session .stage) (c .before .before .print-last .result) (c .before .before .print-last .last .0) (now (a .out)) (a .used) text
+    let bad = printing-bad (a .ordinal) (asHandling (a .handled) []) (test .if1 .taken) in (
+      last-behind (a .ordinal) (session .stage) (c .before .before .print-last .result) (c .before .before .print-last .last .0) (now (a .out)) (a .used) text
           (asOutput (line .record-line .last .0) (line .record-line .result)) (omega (arith, long, short, start .pre .1)) (line .record-line .ensures)
           (c .before .before .print-last .ensures)
-          ∙ ap (λ (s : Step). printedOf s (asOutput (now (a .out)) (a .used))) bad,
-      omega (arith, long, short, length-append text (closing kept), ap (λ (s : Step). length (s .text)) bad),
+          ∙ ap (λ (s : Printing). printedOf s (asOutput (now (a .out)) (a .used))) bad,
+      omega (arith, long, short, length-append text (closing kept), ap (λ (s : Printing). length (s .text)) bad),
     )
 
 print-last-requires-2 : tie.Need-print-last-requires-2
@@ -57,10 +57,10 @@ returns-2 c =
     let test = c .before .before .before .before in
     let start = test .before .before .before .before .before .before .before .before in
     let a = start .args in
-    let session = a .handled .reply .session in
-    let end = told-end (a .number) (asHandles (a .handled) []) (test .before .before .if1 .left) (test .if2 .taken) in (
-      c .before .before .print-last2 .ensures ∙ ap (λ (s : Step). printedOf s (asOutput (now (a .out)) (a .used))) end,
-      omega (arith, last-length (session .stage), ap (λ (s : Step). length (s .text)) end),
+    let session = a .handled .result .session in
+    let end = printing-end (a .ordinal) (asHandling (a .handled) []) (test .before .before .if1 .left) (test .if2 .taken) in (
+      c .before .before .print-last2 .ensures ∙ ap (λ (s : Printing). printedOf s (asOutput (now (a .out)) (a .used))) end,
+      omega (arith, last-length (session .stage), ap (λ (s : Printing). length (s .text)) end),
     )
 
 print-record-requires : tie.Need-print-record-requires
@@ -75,10 +75,10 @@ returns-3 c =
     let test = print .before .before in
     let start = test .before .before .before .before .before .before .before .before in
     let a = start .args in
-    let reply = a .handled .reply in
-    let on = told-record (a .number) (asHandles (a .handled) []) (test .before .before .if1 .left) (test .if2 .left) in (
-      print .print-record .ensures .0 ∙ ap (λ (s : Step). printedOf s (asOutput (now (a .out)) (a .used))) on,
-      omega (arith, record-length (a .number) (numberOf (reply .answer .outcome)) (echoed (reply .answer .echo)) (print .print-record .ensures .1), ap (λ (s : Step). length (s .text)) on),
+    let result = a .handled .result in
+    let on = printing-record (a .ordinal) (asHandling (a .handled) []) (test .before .before .if1 .left) (test .if2 .left) in (
+      print .print-record .ensures .0 ∙ ap (λ (s : Printing). printedOf s (asOutput (now (a .out)) (a .used))) on,
+      omega (arith, record-length (a .ordinal) (outcomeNumber (result .answer .outcome)) (echoBytes (result .answer .echo)) (print .print-record .ensures .1), ap (λ (s : Printing). length (s .text)) on),
     )
 
 pub print-handled-spec : {M : Type 1} → statement M

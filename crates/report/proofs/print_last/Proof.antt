@@ -15,7 +15,7 @@ same-length c = search needs
 returns : tie.Need-returns
 returns c =
     let a = c .before .before .before .before .before .args in
-    ap (printedAt 0 true (a .number)) (c .before .before .last-line .ensures)
+    ap (printedAt 0 true (a .ordinal)) (c .before .before .last-line .ensures)
 
 pub print-last-spec : {M : Type 1} → statement M
 print-last-spec = tie.close (tie.spec last-line-requires same-length returns)

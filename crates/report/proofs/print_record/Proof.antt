@@ -34,7 +34,7 @@ returns c =
     let outcome = line .before .before .before in
     let a = outcome .before .before .before .before .args in
     let bytes = eight (outcome .before .before .before .before) in (
-      ap (printedAt (a .taken) false (a .number + 1)) (line .record-line .ensures)
+      ap (printedAt (a .taken) false (a .ordinal + 1)) (line .record-line .ensures)
           ∙ rw (outcome .outcome-number .ensures),
       omega (arith, bytes, length-take (a .answer .echo .length) (a .answer .echo .bytes), min-le-right (a .answer .echo .length) (length (a .answer .echo .bytes))),
     )

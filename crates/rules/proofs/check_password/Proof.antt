@@ -1,6 +1,6 @@
 -- `rules::check_password` meets its contract: the password passes, and not.
-use borrow.Author.Needs.{needs}
 use Rattle.rules.specs.Rules.{checked}
+use borrow.Author.Needs.{needs}
 use Rattle.rules.proofs.check_password.Statement.{statement}
 use Rattle.rules.proofs.check_password.Tie as tie
 
@@ -14,13 +14,13 @@ returns : tie.Need-returns
 unfolding checked
 returns c = rw (c .enter .ensures, ← c .before .before .check .ensures, c .before .if1 .taken)
 
-enter-requires-2 : tie.Need-enter-requires-2
-enter-requires-2 c κs = search needs
+stop-requires : tie.Need-stop-requires
+stop-requires c κs = search needs
 
 returns-2 : tie.Need-returns-2
 unfolding checked
-returns-2 c = rw (c .enter2 .ensures, ← c .before .before .check .ensures, c .before .if1 .left)
+returns-2 c = rw (c .stop .ensures, ← c .before .before .check .ensures, c .before .if1 .left)
 
 pub check-password-spec : {M : Type 1} → statement M
 check-password-spec =
-    tie.close (tie.spec check-requires enter-requires returns enter-requires-2 returns-2)
+    tie.close (tie.spec check-requires enter-requires returns stop-requires returns-2)

@@ -12,7 +12,7 @@ use Rattle.boot.specs.declared.Mode.{Mode}
 use Rattle.starts.specs.declared.Start.{Start}
 use Rattle.starts.specs.Fresh.{freshIn}
 use Rattle.filling.specs.Write.{filled}
-use Rattle.encoding.specs.Writing.{sessionNumbers}
+use Rattle.encoding.specs.Writing.{sessionWidth, sessionNumbers}
 use Rattle.encoding.proofs.Lengths.{put-whole}
 use Rattle.choices.specs.Numbers.{modeOf}
 use Rattle.runs.specs.Crossing.{asFreshReply, freshLeaves, sessionReply}
@@ -50,7 +50,7 @@ same-length c = search needs
 -- where no test refuses, the session is the one that the way to boot gives
 module _
     (mode : ℕ) (password session selected : List ℕ) (way : Mode) (start : Start) (few : mode ≤ 4)
-    (eight : length password ≡ 8) (room : length session ≡ 24) (read : way ≡ modeOf mode) (bytes : selected ≡ firstEight password)
+    (eight : length password ≡ 8) (room : length session ≡ sessionWidth) (read : way ≡ modeOf mode) (bytes : selected ≡ firstEight password)
     (given : start ≡ freshIn way selected) where
   is-given : start ≡ freshIn (modeOf mode) (firstEight password)
   is-given = given ∙ rw (read, bytes)
@@ -58,7 +58,7 @@ module _
   allowed : sessionReply mode password session ≡ freshLeaves start session
   unfolding sessionReply
   allowed =
-      rw (le-leb mode 4 few, eq-eqb (length password) 8 eight, eq-eqb (length session) 24 room)
+      rw (le-leb mode 4 few, eq-eqb (length password) 8 eight, eq-eqb (length session) sessionWidth room)
       (ap (λ (s : Start). freshLeaves s session) (sym is-given))
 
   written : (out : List ℕ) → start .serial ≡ true → out ≡ filled (sessionNumbers (start .session)) session

@@ -4,12 +4,12 @@ use Rattle.sram.specs.Region.{aligned}
 use Rattle.sram.proofs.is_aligned.Statement.{statement}
 use Rattle.sram.proofs.is_aligned.Tie as tie
 
-is-within-requires : tie.Need-is-within-requires
-is-within-requires c κs = search needs
+is-in-range-requires : tie.Need-is-in-range-requires
+is-in-range-requires c κs = search needs
 
 returns : tie.Need-returns
 unfolding aligned
-returns c = rw (c .is-within .ensures)
+returns c = rw (c .is-in-range .ensures)
 
 pub is-aligned-spec : {M : Type 1} → statement M
-is-aligned-spec = tie.close (tie.spec is-within-requires returns)
+is-aligned-spec = tie.close (tie.spec is-in-range-requires returns)

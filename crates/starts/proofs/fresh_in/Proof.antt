@@ -15,11 +15,11 @@ enum-told-2 c = search needs
 no-session-requires-2 : tie.Need-no-session-requires-2
 no-session-requires-2 c κs = search needs
 
-enum-told-3 : tie.Need-enum-told-3
-enum-told-3 c = search needs
+enum-known-mode : tie.Need-enum-known-mode
+enum-known-mode c = search needs
 
-waiting-requires : tie.Need-waiting-requires
-waiting-requires c κs = search needs
+fresh-serial-requires : tie.Need-fresh-serial-requires
+fresh-serial-requires c κs = search needs
 
 returns : tie.Need-returns
 returns c = search needs
@@ -28,7 +28,7 @@ returns-2 : tie.Need-returns-2
 returns-2 c = search needs
 
 returns-3 : tie.Need-returns-3
-returns-3 c = rw (c .waiting .ensures, c .before .enum-told3 .given .1)
+returns-3 c = rw (c .fresh-serial .ensures, c .before .before .mode .given .1)
 
 pub fresh-in-spec : {M : Type 1} → statement M
 fresh-in-spec =
@@ -38,8 +38,8 @@ fresh-in-spec =
     no-session-requires
     enum-told-2
     no-session-requires-2
-    enum-told-3
-    waiting-requires
+    enum-known-mode
+    fresh-serial-requires
     returns
     returns-2
     returns-3)

@@ -1,13 +1,13 @@
--- `starts::no_session` meets its contract: what `waiting` ensures.
+-- `starts::no_session` meets its contract: what `fresh_serial` ensures.
 use borrow.Author.Needs.{needs}
 use Rattle.starts.proofs.no_session.Statement.{statement}
 use Rattle.starts.proofs.no_session.Tie as tie
 
-waiting-requires : tie.Need-waiting-requires
-waiting-requires c κs = search needs
+fresh-serial-requires : tie.Need-fresh-serial-requires
+fresh-serial-requires c κs = search needs
 
 returns : tie.Need-returns
-returns c = rw (c .waiting .ensures)
+returns c = rw (c .fresh-serial .ensures)
 
 pub no-session-spec : {M : Type 1} → statement M
-no-session-spec = tie.close (tie.spec waiting-requires returns)
+no-session-spec = tie.close (tie.spec fresh-serial-requires returns)

@@ -5,7 +5,7 @@ use mathlib.Core.Path.{ap, _∙_}
 use denote.Ref.{now}
 use Rattle.text.proofs.last_line.Statement.{statement}
 use Rattle.text.proofs.last_line.Tie as tie
-use Rattle.text.specs.Places.{asOutput, appended}
+use Rattle.text.specs.Output.{asOutput, appended}
 use Rattle.text.proofs.Laws.{last-part}
 
 slice-aggregate-put-last : tie.Need-slice-aggregate-put-last

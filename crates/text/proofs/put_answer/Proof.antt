@@ -36,8 +36,8 @@ returns c =
     let echo = space .before .before .before .before in
     let feed = echo .before .before .before .before in
     let start = feed .before .before .before .before in
-    let told = answer-text (decimal (start .args .answer)) (echoText (now (start .args .echo))) (ascii "\n") in
-    rw (← told)
+    let joined = answer-text (decimal (start .args .answer)) (echoText (now (start .args .echo))) (ascii "\n") in
+    rw (← joined)
     (further (omega arith) (further (omega arith) (further (omega arith) (feed .put-byte .ensures) (echo .put-echo .ensures)) (space .put-byte2 .ensures)) (number .put-decimal .ensures))
 
 pub put-answer-spec : {M : Type 1} → statement M

@@ -19,7 +19,7 @@ same-length c = search needs
 returns : tie.Need-returns
 returns c =
     let a = c .args in
-    one (now (a .line)) (a .place - 1) (a .place) (a .byte) (omega arith) (omega arith)
+    one (now (a .line)) (a .end - 1) (a .end) (a .byte) (omega arith) (omega arith)
 
 pub put-byte-spec : {M : Type 1} → statement M
 put-byte-spec = tie.close (tie.spec sub-start slice-write-line same-length returns)

@@ -31,7 +31,7 @@ returns c =
     let start = c .before .before .before .before .before .before in
     let a = start .args in
     rw (c .before .before .fill .ensures)
-    (several (now (a .line)) (now (a .bytes)) (a .place - length (now (a .bytes))) (a .place) (omega (arith, start .pre)) (start .pre .1))
+    (several (now (a .line)) (now (a .bytes)) (a .end - length (now (a .bytes))) (a .end) (omega (arith, start .pre)) (start .pre .1))
 
 pub put-bytes-spec : {M : Type 1} → statement M
 put-bytes-spec =

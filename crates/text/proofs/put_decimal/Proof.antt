@@ -1,4 +1,4 @@
--- `text::put_decimal` meets its contract: each turn puts one digit in front of those that stand.
+-- `text::put_decimal` meets its contract: each turn puts one digit in front of those that are written.
 use native.Mathlib.Omega.{arith}
 use Prim.Native.Nat.{_≤_, _<_}
 use mathlib.Core.Path.{_∙_}
@@ -13,17 +13,17 @@ use Rattle.text.proofs.put_decimal.Tie as tie
 use Rattle.text.proofs.Laws.{Spelling, spelling-first, spelling-on, spelling-last, wrote-length}
 
 abbrev Inv-loop : tie.InvT-loop
-Inv-loop line₀ place n start₀ rest₀ more₀ line start rest more = Spelling line₀ place n line start rest more × (20 ≤ place) × (place ≤ length line₀)
+Inv-loop line₀ end n start₀ rest₀ more₀ line start rest more = Spelling line₀ end n line start rest more × (20 ≤ end) × (end ≤ length line₀)
 
 abbrev μ-loop : tie.MeasureT-loop
-μ-loop line₀ place n start₀ rest₀ more₀ line start rest more = more
+μ-loop line₀ end n start₀ rest₀ more₀ line start rest more = more
 
 loop-holds : tie.Need-loop-holds Inv-loop μ-loop
 loop-holds c =
     let a = c .before .args in
-    (spelling-first (now (a .line)) (a .place) (a .n), c .before .pre .0, c .before .pre .1)
+    (spelling-first (now (a .line)) (a .end) (a .n), c .before .pre .0, c .before .pre .1)
 
--- there is a place for one digit more
+-- there is room for one digit more
 room : (c : tie.At-loop Inv-loop μ-loop) → (0 < c .loop .start) × (c .loop .start ≤ length (c .loop .line))
 room c =
     let l = c .loop in

@@ -1,4 +1,4 @@
--- `text::put_hex` meets its contract: each turn puts the two digits of one byte in front of those that stand.
+-- `text::put_hex` meets its contract: each turn puts the two digits of one byte in front of those that are written.
 use native.Mathlib.Omega.{arith}
 use Prim.Native.Nat.{ℕ, _*_, _-_, _≤_}
 use mathlib.Core.Path.{_≡_, subst}
@@ -8,35 +8,35 @@ use denote.Ref.{now}
 use Rattle.text.proofs.put_hex.Statement.{statement}
 use Rattle.text.proofs.put_hex.Tie as tie
 use Rattle.text.specs.Digits.{hexOf}
-use Rattle.text.specs.Places.{Wrote}
+use Rattle.text.specs.Output.{Wrote}
 use Rattle.text.proofs.Laws.{nothing, further, hex-more, hex-length, wrote-length}
 
 abbrev Inv-loop : tie.InvT-loop
-Inv-loop line₀ place bytes start₀ left₀ line start left = Wrote line₀ line (hexOf (drop left bytes)) start place × (left ≤ length bytes) × (2 * length bytes ≤ place) × (place ≤ length line₀)
+Inv-loop line₀ end bytes start₀ unwritten₀ line start unwritten = Wrote line₀ line (hexOf (drop unwritten bytes)) start end × (unwritten ≤ length bytes) × (2 * length bytes ≤ end) × (end ≤ length line₀)
 
 abbrev μ-loop : tie.MeasureT-loop
-μ-loop line₀ place bytes start₀ left₀ line start left = left
+μ-loop line₀ end bytes start₀ unwritten₀ line start unwritten = unwritten
 
 loop-holds : tie.Need-loop-holds Inv-loop μ-loop
 loop-holds c =
     let start = c .before .before in
     let a = start .args in
     let none = drop-length (now (a .bytes)) in
-    (rw none (nothing (now (a .line)) (a .place)), omega arith, start .pre .0, start .pre .1)
+    (rw none (nothing (now (a .line)) (a .end)), omega arith, start .pre .0, start .pre .1)
 
--- there is a place for the digits of one byte more
+-- there is room for the digits of one byte more
 room : (c : tie.In-loop Inv-loop μ-loop)
     → (2 ≤ c .before .loop .start) × (c .before .loop .start ≤ length (c .before .loop .line))
 room c =
     let l = c .before .loop in
     let bytes = now (c .before .before .before .before .args .bytes) in
     let wrote = l .inv .0 in (
-      omega (arith, wrote .ends, hex-length (drop (l .left) bytes), length-drop (l .left) bytes),
+      omega (arith, wrote .ends, hex-length (drop (l .unwritten) bytes), length-drop (l .unwritten) bytes),
       omega (arith, wrote .ends, wrote-length (l .inv .3) wrote),
     )
 
-sub-left : tie.Need-sub-left Inv-loop μ-loop
-sub-left c = omega arith
+sub-unwritten : tie.Need-sub-unwritten Inv-loop μ-loop
+sub-unwritten c = omega arith
 
 shared-slice-read-put-hex-byte : tie.Need-shared-slice-read-put-hex-byte Inv-loop μ-loop
 shared-slice-read-put-hex-byte c = omega arith
@@ -52,7 +52,7 @@ loop-again c =
     let test = c .before .before .before .before .before in
     let l = test .before .loop in
     let bytes = now (test .before .before .before .before .args .bytes) in
-    let more = hex-more bytes (l .left) (omega arith) (l .inv .1) in
+    let more = hex-more bytes (l .unwritten) (omega arith) (l .inv .1) in
     (rw (← more) (further (l .inv .3) (l .inv .0) (c .before .before .put-hex-byte .ensures)), omega arith, l .inv .2, l .inv .3)
 
 same-length : tie.Need-same-length Inv-loop μ-loop
@@ -62,8 +62,8 @@ returns : tie.Need-returns Inv-loop μ-loop
 returns c =
     let l = c .before .loop in
     let a = c .before .before .before .before .args in
-    let none : l .left ≡ 0 = omega arith in
-    subst (λ (n : ℕ). Wrote (now (a .line)) (l .line) (hexOf (drop n (now (a .bytes)))) (l .start) (a .place)) none (l .inv .0)
+    let none : l .unwritten ≡ 0 = omega arith in
+    subst (λ (n : ℕ). Wrote (now (a .line)) (l .line) (hexOf (drop n (now (a .bytes)))) (l .start) (a .end)) none (l .inv .0)
 
 pub put-hex-spec : {M : Type 1} → statement M
 put-hex-spec =
@@ -72,7 +72,7 @@ put-hex-spec =
     Inv-loop
     μ-loop
     loop-holds
-    sub-left
+    sub-unwritten
     shared-slice-read-put-hex-byte
     put-hex-byte-requires
     loop-less

@@ -9,7 +9,7 @@ use Rattle.text.proofs.put_jumped.Statement.{statement}
 use Rattle.text.proofs.put_jumped.Tie as tie
 use Rattle.text.specs.Digits.{ascii, hexOf}
 use Rattle.text.specs.Lines.{addressBytes}
-use Rattle.text.specs.Places.{Wrote}
+use Rattle.text.specs.Output.{Wrote}
 use Rattle.text.proofs.Laws.{further, hex-length}
 
 put-byte-requires : tie.Need-put-byte-requires
@@ -44,8 +44,8 @@ returns c =
     let feed = bytes .before .before .before .before in
     let start = feed .before .before .before in
     let a = start .args in
-    let told = append-assoc (ascii "end jump ") (hexOf (addressBytes (a .jump .start .0))) (ascii "\n") in
-    rw told
+    let joined = append-assoc (ascii "end jump ") (hexOf (addressBytes (a .jump .start .0))) (ascii "\n") in
+    rw joined
     (subst
     (λ (l : List ℕ). Wrote (now (a .line)) (words .put-bytes .last .0) (ascii "end jump " ++ (hexOf l ++ ascii "\n")) (words .put-bytes .result) 64)
     (bytes .address-bytes .ensures)

@@ -1,4 +1,4 @@
--- `text::put_record` meets its contract: the answer and the echo, and in front of them a space and the record's number.
+-- `text::put_record` meets its contract: the answer and the echo, and in front of them a space and the record's ordinal.
 use borrow.Author.Needs.{needs}
 use native.Mathlib.Omega.{arith}
 use denote.Ref.{now}
@@ -28,13 +28,13 @@ same-length c = search needs
 
 returns : tie.Need-returns
 returns c =
-    let number = c .before .before in
-    let space = number .before .before .before .before in
+    let ordinal = c .before .before in
+    let space = ordinal .before .before .before .before in
     let answer = space .before .before .before .before in
     let start = answer .before .before .before .before in
-    let told = record-text (decimal (start .args .number)) (decimal (start .args .answer)) (echoText (now (start .args .echo))) (ascii "\n") in
-    rw (← told)
-    (further (omega arith) (further (omega arith) (answer .put-answer .ensures) (space .put-byte .ensures)) (number .put-decimal .ensures))
+    let joined = record-text (decimal (start .args .ordinal)) (decimal (start .args .answer)) (echoText (now (start .args .echo))) (ascii "\n") in
+    rw (← joined)
+    (further (omega arith) (further (omega arith) (answer .put-answer .ensures) (space .put-byte .ensures)) (ordinal .put-decimal .ensures))
 
 pub put-record-spec : {M : Type 1} → statement M
 put-record-spec =

@@ -25,9 +25,9 @@ slice-aggregate-put-bytes c = search needs
 
 put-bytes-requires : tie.Need-put-bytes-requires
 put-bytes-requires c κs =
-    let number = c .before .before .before .before in
-    let said = number .before .before .outcome-number .result in
-    (omega (arith, number .put-decimal .ensures, decimal-length 19 said), omega arith)
+    let digits = c .before .before .before .before in
+    let number = digits .before .before .outcome-number .result in
+    (omega (arith, digits .put-decimal .ensures, decimal-length 19 number), omega arith)
 
 same-length : tie.Need-same-length
 same-length c = search needs
@@ -35,13 +35,13 @@ same-length c = search needs
 returns : tie.Need-returns
 returns c =
     let words = c .before .before in
-    let number = words .before .before .before .before .before in
-    let outcome = number .before .before in
+    let digits = words .before .before .before .before .before in
+    let outcome = digits .before .before in
     let feed = outcome .before .before .before in
     let start = feed .before .before .before in
-    let told = append-assoc (ascii "end stopped ") (decimal (refusalNumber (start .args .refusal))) (ascii "\n") in
-    rw (told, ← outcome .outcome-number .ensures)
-    (further (omega arith) (further (omega arith) (feed .put-byte .ensures) (number .put-decimal .ensures)) (words .put-bytes .ensures))
+    let joined = append-assoc (ascii "end stopped ") (decimal (refusalNumber (start .args .refusal))) (ascii "\n") in
+    rw (joined, ← outcome .outcome-number .ensures)
+    (further (omega arith) (further (omega arith) (feed .put-byte .ensures) (digits .put-decimal .ensures)) (words .put-bytes .ensures))
 
 pub put-stopped-spec : {M : Type 1} → statement M
 put-stopped-spec =

@@ -8,7 +8,7 @@ use denote.Ref.{now}
 use Rattle.text.proofs.record_line.Statement.{statement}
 use Rattle.text.proofs.record_line.Tie as tie
 use Rattle.text.specs.Lines.{recordLine}
-use Rattle.text.specs.Places.{asOutput, appended}
+use Rattle.text.specs.Output.{asOutput, appended}
 use Rattle.text.proofs.Laws.{last-part, least-taken}
 
 least-requires : tie.Need-least-requires
@@ -49,11 +49,11 @@ returns c =
     let put = c .before .before .before .before .before .before .before in
     let least = put .before .before .before .before in
     let a = least .before .before .args in
-    let told = last-part (omega arith) (put .put-record .ensures) in
+    let written = last-part (omega arith) (put .put-record .ensures) in
     let shown : least .least .result - 0 ≡ min (a .count) 8 = omega (arith, least .least .ensures) in
     let echo = ap (λ (n : ℕ). take n (a .t5)) shown ∙ least-taken (a .t5) (a .count) (search needs) in
     c .before .before .append .ensures
-    ∙ ap (appended (asOutput (now (a .out)) (a .used))) (told ∙ ap (recordLine (a .number) (a .answer)) echo)
+    ∙ ap (appended (asOutput (now (a .out)) (a .used))) (written ∙ ap (recordLine (a .ordinal) (a .answer)) echo)
 
 pub record-line-spec : {M : Type 1} → statement M
 record-line-spec =

@@ -4,7 +4,7 @@ use lib.ListN.{length}
 use denote.Ref.{now}
 use Rattle.beginnings.specs.Beginning.{keeping}
 use Rattle.report.specs.Windows.{playedIn}
-use Rattle.windows.proofs.Laws.{stands}
+use Rattle.windows.proofs.Laws.{window-played}
 use Rattle.windows.proofs.play_window.Statement.{statement}
 use Rattle.windows.proofs.play_window.Tie as tie
 
@@ -28,8 +28,8 @@ returns c =
     let moved = c .before .before .slide in
     let after = c .before .before .before .before .before .before .before .before .before .before in
     let a = after .before .before .before .before .before .before .before .before .args in
-    let p = playedIn (now (a .window)) (a .last) (length (now (a .out))) (keeping (a .standing .number) (a .standing .session) (now (a .sram))) in
-    stands (now (a .window)) (now (a .out)) p
+    let p = playedIn (now (a .window)) (a .last) (length (now (a .out))) (keeping (a .progress .ordinal) (a .progress .session) (now (a .sram))) in
+    window-played (now (a .window)) (now (a .out)) p
     (after .play .result) _ _ (after .play .ensures .0)
     (moved .result) (moved .ensures .0) _ (moved .ensures .1)
 
