@@ -1,12 +1,15 @@
 //! The calls of a serial session, handed to the library and to the reference side by
-//! side. After every call everything that it could have written is compared.
+//! side. After every call everything that it could have written is compared, and the MMU
+//! rows of the session that it left.
 
 use crate::numbers::{
-    answer_name, only, row, session_name, Head, Row, ANSWER, JUMP, JUMP_VLE, PORT, SESSION, STAGE,
+    answer_name, entered_of, only, row, session_name, table, table_name, Head, Row, ANSWER,
+    ENTERED, JUMP, JUMP_VLE, PORT, SESSION, STAGE, TABLE, VLE,
 };
 use crate::random::Random;
 use crate::report::{hex, line};
 use crate::{ours, Among, Tally};
+use reference::mmu::{self, session_rows};
 use reference::session::{load, picked, plain, stream, Answer, Item, Port};
 use std::array;
 use std::fmt;
@@ -19,6 +22,7 @@ pub const BASE: u32 = 0x4000_0000;
 pub const SESSION_MAX: usize = SESSION + 8;
 pub const SRAM_MAX: usize = SRAM + 8;
 pub const ANSWER_MAX: usize = ANSWER + 8;
+pub const ROWS_MAX: usize = TABLE + 24;
 const BEYOND: usize = 8;
 
 const DIGITS: [&str; 10] = ["0", "1", "2", "3", "4", "5", "6", "7", "8", "9"];
@@ -35,12 +39,28 @@ const STAGES: [&str; 8] = [
     "stopped",
     "jumped",
 ];
+/// Why a session gets 8.
+const CAUSES: [&str; 3] = ["length", "no session", "not sound"];
+/// How serial boot was entered, in the order of boot_assist_mode from 2 on.
+const ENTRIES: [&str; 3] = ["directly", "from internal", "from external"];
+/// Where rows are answered: the stages in their order, with VLE 0 and 1 if they have it.
+const ROWS_IN: [[&str; 2]; 6] = [
+    ["waiting"; 2],
+    ["password"; 2],
+    ["header"; 2],
+    ["data VLE 0", "data VLE 1"],
+    ["stopped"; 2],
+    ["jumped VLE 0", "jumped VLE 1"],
+];
 const JUMPS: [[&str; 2]; 2] = [["CAN VLE 0", "CAN VLE 1"], ["serial VLE 0", "serial VLE 1"]];
+
+/// The numbers of a session and those behind them.
+type Numbers = [u32; SESSION_MAX + BEYOND];
 
 /// What a caller keeps from call to call.
 #[derive(Clone, PartialEq)]
 struct Kept {
-    session: [u32; SESSION_MAX + BEYOND],
+    session: Numbers,
     sram: Vec<u8>,
 }
 
@@ -168,7 +188,7 @@ impl PartialEq for Side<'_> {
 }
 
 pub struct Bench<'a> {
-    random: Random,
+    pub random: Random,
     tally: &'a mut Tally,
     /// Whether the inputs are now random ones, for the tally.
     pub at_random: bool,
@@ -186,6 +206,8 @@ pub struct Bench<'a> {
 
 impl<'a> Bench<'a> {
     pub fn new(random: Random, tally: &'a mut Tally) -> Self {
+        let mut rows_in = ROWS_IN.concat();
+        rows_in.dedup();
         for (thing, among, values) in [
             ("session", Among::All, &["0", "9"][..]),
             ("CAN", Among::Random, &DIGITS),
@@ -193,13 +215,13 @@ impl<'a> Bench<'a> {
             ("serial", Among::Random, &SERIAL_DIGITS),
             ("stage", Among::Random, &STAGES),
             ("jump", Among::Random, JUMPS.as_flattened()),
-            (
-                "8 for",
-                Among::Random,
-                &["length", "no session", "not sound"],
-            ),
+            ("8 for", Among::Random, &CAUSES),
             ("list", Among::Random, &["0", "6", "7", "8"]),
             ("opening", Among::Random, &["CAN", "serial", "none"]),
+            ("session rows", Among::Random, &["0", "8", "9", "11"]),
+            ("rows in", Among::Random, &rows_in),
+            ("rows' 8 for", Among::Random, &CAUSES),
+            ("entered", Among::Random, &ENTRIES),
         ] {
             tally.expect(thing, among, values);
         }
@@ -259,11 +281,14 @@ impl<'a> Bench<'a> {
         self.expected.session = self.ours.session;
         let number = ours::session(mode, password, &mut self.ours.session[..session_len]);
         let due = match <[u8; 8]>::try_from(password) {
-            Ok(selected) if matches!(mode, 2..=4) && session_len == SESSION => {
-                let numbers = Head::fresh(selected).numbers();
-                self.expected.session[..SESSION].copy_from_slice(&numbers);
-                0
-            }
+            Ok(selected) if session_len == SESSION => match entered_of(mode.into()) {
+                Some(entered) => {
+                    let numbers = Head::fresh(entered, selected).numbers();
+                    self.expected.session[..SESSION].copy_from_slice(&numbers);
+                    0
+                }
+                None => 9,
+            },
             _ => 9,
         };
         self.compare("reference", (number, &[]), (due, &[]), || {
@@ -276,6 +301,7 @@ impl<'a> Bench<'a> {
         self.count("session", DIGITS[usize::from(number)]);
         if number == 0 {
             self.trail.push(Step::Session(self.numbers()));
+            self.rows_at_hand()?;
         }
         Ok(())
     }
@@ -310,6 +336,8 @@ impl<'a> Bench<'a> {
         if due.number < 7 {
             self.trail.push(Step::Item(item.clone()));
         }
+        let rows_len = self.rows_len();
+        self.rows(lengths.session, rows_len)?;
         Ok(row)
     }
 
@@ -452,7 +480,8 @@ impl<'a> Bench<'a> {
         }
         self.tally.inputs += 1;
         self.count("list", "0");
-        Ok(())
+        let rows_len = self.rows_len();
+        self.compare_rows(self.listed.session, SESSION, rows_len)
     }
 
     /// A list that is refused. Answers whether it is: one that would be answered is not
@@ -478,7 +507,70 @@ impl<'a> Bench<'a> {
             format!("{parts}{session}{lengths}")
         })?;
         self.count("list", DIGITS[usize::from(number)]);
+        let rows_len = self.rows_len();
+        self.rows(lengths.session, rows_len)?;
         Ok(true)
+    }
+
+    /// The length of an output for rows, mostly the right one.
+    fn rows_len(&mut self) -> usize {
+        match self.random.below(12) {
+            0 => self.random.below(ROWS_MAX + 1),
+            1 => self.random.pick(&[TABLE - 1, TABLE + 1]),
+            _ => TABLE,
+        }
+    }
+
+    /// The rows of the session at hand.
+    pub fn rows_at_hand(&mut self) -> Result<(), String> {
+        let rows_len = self.rows_len();
+        self.rows(SESSION, rows_len)
+    }
+
+    /// The rows of the session at hand, with the lengths as told.
+    pub fn rows(&mut self, session_len: usize, rows_len: usize) -> Result<(), String> {
+        self.compare_rows(self.ours.session, session_len, rows_len)
+    }
+
+    /// The rows of a session, which must be left as it is.
+    fn compare_rows(
+        &mut self,
+        session: Numbers,
+        session_len: usize,
+        rows_len: usize,
+    ) -> Result<(), String> {
+        let mut rows: [u32; ROWS_MAX + BEYOND] = array::from_fn(|_| self.random.number() as u32);
+        let (mut expected, mut after) = (rows, session);
+        let number = ours::session_rows(&mut after[..session_len], &mut rows[..rows_len]);
+        let due = match due_rows(&session[..session_len]) {
+            Err(number) => number,
+            Ok(_) if rows_len != TABLE => 9,
+            Ok(rows) => {
+                expected[..TABLE].copy_from_slice(&table(rows));
+                0
+            }
+        };
+        if (number, rows, after) != (due, expected, session) {
+            let mut text = format!("boot_assist_session_rows, rows_len {rows_len}\n");
+            text += &session_line(&session[..session_len]);
+            text += &format!("  {:<16} {:<24} reference\n", "", "ours");
+            text += &line("returned", &number.to_string(), &due.to_string());
+            text += &number_lines(&rows, &expected, TABLE, table_name);
+            text += &number_lines(&after, &session, 0, session_name);
+            return Err(self.report(&text));
+        }
+        self.tally.inputs += 1;
+        self.count("session rows", &number.to_string());
+        if number == 8 {
+            self.count("rows' 8 for", cause(&session[..session_len]));
+        } else {
+            self.count("entered", ENTRIES[session[ENTERED] as usize - 2]);
+        }
+        if number == 0 {
+            let [stage, vle] = [STAGE, VLE].map(|at| session[at] as usize);
+            self.count("rows in", ROWS_IN[stage][vle]);
+        }
+        Ok(())
     }
 
     fn junk(&mut self, length: usize) -> Vec<u32> {
@@ -542,9 +634,7 @@ impl<'a> Bench<'a> {
         self.count(PORTS[port], DIGITS[usize::from(answer.number)]);
         match answer.number {
             7 => {}
-            8 if before.len() != SESSION => self.count("8 for", "length"),
-            8 if Head::of(before).is_none() => self.count("8 for", "no session"),
-            8 => self.count("8 for", "not sound"),
+            8 => self.count("8 for", cause(before)),
             _ => {
                 let serial = before[PORT] as usize;
                 let stage = match before[STAGE] {
@@ -586,6 +676,25 @@ pub fn refused_for_form(item: &Item) -> bool {
     }
 }
 
+/// Why the session of these numbers gets 8.
+fn cause(numbers: &[u32]) -> &'static str {
+    let [length, no_session, not_sound] = CAUSES;
+    if numbers.len() != SESSION {
+        length
+    } else if Head::of(numbers).is_none() {
+        no_session
+    } else {
+        not_sound
+    }
+}
+
+/// The reference's rows of the session that has these numbers. That there is one is asked
+/// by the C interface alone.
+fn due_rows(numbers: &[u32]) -> Result<[mmu::Row; 5], u8> {
+    let head = Head::of(numbers).ok_or(8)?;
+    session_rows(&head.session)
+}
+
 fn hand_in(kept: &mut Kept, item: &Item, mark: u8, lengths: Lengths, answer: &mut [u32]) -> u8 {
     let session = &mut kept.session[..lengths.session];
     let sram = &mut kept.sram[..lengths.sram];
@@ -623,8 +732,9 @@ fn shown(item: &Item) -> String {
 fn session_line(numbers: &[u32]) -> String {
     let mut text = format!("session, {} numbers:", numbers.len());
     for (index, number) in numbers.iter().enumerate() {
-        // The password, the stage with port and count, the held bytes, the rest.
-        let comma = if matches!(index, 8 | 11 | 19) {
+        // The password, the stage with port and count, the held bytes, what the stage has, how
+        // serial boot was entered.
+        let comma = if matches!(index, 8 | 11 | 19 | 24) {
             ","
         } else {
             ""
@@ -641,24 +751,28 @@ fn side_by_side(other: &str, ours: &Side, expected: &Side) -> String {
     let mut text = format!("  {:<16} {:<24} {other}\n", "", "ours");
     let number = |side: &Side| side.number.to_string();
     text += &line("returned", &number(ours), &number(expected));
-    let mut numbers = |ours: &[u32], expected: &[u32], shown: usize, name: fn(usize) -> String| {
-        for (index, (ours, expected)) in ours.iter().zip(expected).enumerate() {
-            if index < shown || ours != expected {
-                let [ours, expected] = [ours, expected].map(|number| format!("{number:#x}"));
-                text += &line(&name(index), &ours, &expected);
-            }
-        }
-    };
     let of_one_item = ours.answer.len() <= ANSWER_MAX + BEYOND;
     if of_one_item {
-        numbers(ours.answer, expected.answer, ANSWER, answer_name);
+        text += &number_lines(ours.answer, expected.answer, ANSWER, answer_name);
     }
     let [left, right] = [ours, expected].map(|side| &side.kept.session[..]);
-    numbers(left, right, SESSION, session_name);
+    text += &number_lines(left, right, SESSION, session_name);
     if !of_one_item {
         text += &row_lines(other, ours.answer, expected.answer);
     }
     text + &sram_lines(&ours.kept.sram, &expected.kept.sram)
+}
+
+/// A line for each of the first numbers, as many as `shown`, and for others that differ.
+fn number_lines(ours: &[u32], expected: &[u32], shown: usize, name: fn(usize) -> String) -> String {
+    let mut text = String::new();
+    for (index, (ours, expected)) in ours.iter().zip(expected).enumerate() {
+        if index < shown || ours != expected {
+            let [ours, expected] = [ours, expected].map(|number| format!("{number:#x}"));
+            text += &line(&name(index), &ours, &expected);
+        }
+    }
+    text
 }
 
 fn row_lines(other: &str, ours: &[u32], expected: &[u32]) -> String {

@@ -1,10 +1,11 @@
-//! The boot choice and the MMU rows: the inputs, and the comparison of the answers.
+//! The boot choice and its MMU rows: the inputs, and the comparison of the answers.
 
+use crate::numbers::{mode_number, table, table_name, MODES, TABLE};
 use crate::random::Random;
 use crate::report::{hex, line};
 use crate::{ours, Among, Tally};
-use reference::boot::{choose, Choice, Entered, Mode};
-use reference::mmu::{rows, Header, Row};
+use reference::boot::{choose, Choice, Mode};
+use reference::mmu::{choice_rows, Row};
 use std::array;
 use std::fmt;
 
@@ -19,21 +20,17 @@ const SHADOW: usize = 12;
 const HEAD: usize = 8;
 const FIELDS: usize = 8;
 const PASSWORD: usize = 8;
-const ROWS: usize = 40;
 /// Output buffers go on for this many behind the largest length handed in.
 const BEYOND: usize = 8;
+/// The largest length handed in for rows, and how long their buffer is. It is filled at
+/// random: with other numbers here a seed gives other random inputs.
+const ROWS_MAX: usize = 130;
+const ROWS_BUFFER: usize = 144;
 
 const BOOT_ID: u8 = 0x5A;
 const CONTROLS: [u16; 5] = [0x55AA, 0xAA55, 0x0000, 0xFFFF, 0x55AB];
 
 /// In the order of boot_assist_mode.
-const MODES: [Mode; 5] = [
-    Mode::Internal,
-    Mode::External,
-    Mode::Serial(Entered::Asked),
-    Mode::Serial(Entered::FromInternal),
-    Mode::Serial(Entered::FromExternal),
-];
 const MODE_NAMES: [&str; 5] = [
     "internal",
     "external",
@@ -42,28 +39,9 @@ const MODE_NAMES: [&str; 5] = [
     "serial from external",
 ];
 
-/// In the order of boot_assist_header.
-const HEADERS: [Header; 3] = [
-    Header::NotAccepted,
-    Header::Accepted { vle: false },
-    Header::Accepted { vle: true },
-];
-
 /// In the order of boot_assist_field.
 const FIELD_NAMES: [&str; FIELDS] = [
     "mode", "place", "looked", "jump", "watchdog", "bus16", "flash", "nexus",
-];
-
-/// In the order of boot_assist_row.
-const ROW_NAMES: [&str; 8] = [
-    "logical",
-    "physical",
-    "size",
-    "inhibited",
-    "guarded",
-    "big endian",
-    "global PID",
-    "VLE",
 ];
 
 /// Compares the systematic inputs, then `count` random ones. An error is the report
@@ -82,7 +60,7 @@ pub fn run(random: Random, count: u64, tally: &mut Tally) -> Result<(), String> 
     ] {
         tally.expect(thing, Among::Random, values);
     }
-    tally.expect("rows", Among::All, &["0", "9", "11"]);
+    tally.expect("choice rows", Among::All, &["0", "9", "11"]);
 
     let mut boot = Boot {
         random,
@@ -470,47 +448,38 @@ impl Boot<'_> {
         }
     }
 
-    /// Every mode and header there could be, and every wrong length up to 64 with those
-    /// that are taken and the first that are not.
+    /// Every mode there could be, with every length up to ROWS_MAX.
     fn rows(&mut self) -> Result<(), String> {
         for mode in 0..=255 {
-            for header in 0..=255 {
-                self.compare_rows(mode, header, ROWS)?;
-            }
-        }
-        for mode in 0..=MODES.len() as u8 {
-            for header in 0..=HEADERS.len() as u8 {
-                for rows_len in (0..=64).filter(|&len| len != ROWS) {
-                    self.compare_rows(mode, header, rows_len)?;
-                }
+            for rows_len in 0..=ROWS_MAX {
+                self.compare_rows(mode, rows_len)?;
             }
         }
         Ok(())
     }
 
-    fn compare_rows(&mut self, mode: u8, header: u8, rows_len: usize) -> Result<(), String> {
-        let before = Answer::before(&mut self.random, 64 + BEYOND, 0);
+    fn compare_rows(&mut self, mode: u8, rows_len: usize) -> Result<(), String> {
+        let before = Answer::before(&mut self.random, ROWS_BUFFER, 0);
 
         let mut ours = before.clone();
-        ours.number = ours::rows(mode, header, &mut ours.words[..rows_len]);
+        ours.number = ours::choice_rows(mode, &mut ours.words[..rows_len]);
 
         let mut reference = before;
-        match expected_rows(mode, header, rows_len) {
-            Ok(rows) => reference.words[..ROWS].copy_from_slice(&rows.map(row_words).concat()),
+        match expected_rows(mode, rows_len) {
+            Ok(rows) => reference.words[..TABLE].copy_from_slice(&table(rows)),
             Err(number) => reference.number = number,
         }
 
         if ours != reference {
-            let name = |index| format!("row {} {}", index / 8, ROW_NAMES[index % 8]);
-            let names: Vec<String> = (0..ROWS).map(name).collect();
+            let names: Vec<String> = (0..TABLE).map(table_name).collect();
             let answers = side_by_side(&ours, &reference, &names);
             return Err(format!(
-                "boot_assist_rows, mode {mode}, header {header}, rows_len {rows_len}\n{answers}"
+                "boot_assist_choice_rows, mode {mode}, rows_len {rows_len}\n{answers}"
             ));
         }
         self.tally.inputs += 1;
         let number = ours.number.to_string();
-        self.tally.count("rows", &number, self.at_random);
+        self.tally.count("choice rows", &number, self.at_random);
         Ok(())
     }
 }
@@ -523,19 +492,14 @@ fn expected_choice(input: &Input, flash: &[u8]) -> Result<Choice, u8> {
     choose(input.bootcfg, flash, &input.shadow, &input.head)
 }
 
-/// As `expected_choice`, for the rows. External rows are refused whatever the header
-/// and the length.
-fn expected_rows(mode: u8, header: u8, rows_len: usize) -> Result<[Row; 5], u8> {
+/// As `expected_choice`, for the rows. External rows are refused whatever the length.
+fn expected_rows(mode: u8, rows_len: usize) -> Result<[Row; 5], u8> {
     let &mode = MODES.get(usize::from(mode)).ok_or(9)?;
-    rows(mode, Header::NotAccepted)?;
-    match HEADERS.get(usize::from(header)) {
-        Some(&header) if rows_len == ROWS => rows(mode, header),
-        _ => Err(9),
+    let rows = choice_rows(mode)?;
+    if rows_len != TABLE {
+        return Err(9);
     }
-}
-
-fn mode_number(mode: Mode) -> usize {
-    MODES.iter().position(|&other| other == mode).unwrap()
+    Ok(rows)
 }
 
 /// In the order of boot_assist_field.
@@ -549,19 +513,5 @@ fn fields(choice: &Choice) -> [u32; FIELDS] {
         choice.bus16.into(),
         choice.flash_on.into(),
         choice.nexus_on.into(),
-    ]
-}
-
-/// In the order of boot_assist_row.
-fn row_words(row: Row) -> [u32; 8] {
-    [
-        row.logical,
-        row.physical,
-        row.size,
-        row.cache_inhibited.into(),
-        row.guarded.into(),
-        row.big_endian.into(),
-        row.global_pid.into(),
-        row.vle.into(),
     ]
 }

@@ -72,6 +72,7 @@ fn session(
         stage, port, 0,
         0, 0, 0, 0, 0, 0, 0, 0,
         start, vle, next, owed, refusal,
+        SERIAL_DIRECTLY.into(),
     ];
     numbers
 }

@@ -173,7 +173,7 @@ impl fmt::Display for Tally {
     fn fmt(&self, f: &mut fmt::Formatter) -> fmt::Result {
         writeln!(f, "tally, random inputs/all inputs")?;
         for line in &self.lines {
-            write!(f, "{:<10}", line.thing)?;
+            write!(f, "{:<12}", line.thing)?;
             for (index, value) in line.values.iter().enumerate() {
                 let comma = if index == 0 { "" } else { "," };
                 write!(f, "{comma} {}: ", value.name)?;

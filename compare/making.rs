@@ -3,9 +3,10 @@
 
 use crate::bench::{Lengths, Parts, ANSWER_MAX, BASE, RIGHT, SESSION_MAX, SRAM, SRAM_MAX};
 use crate::numbers::{
-    Head, ANSWER, COUNT, HELD, NEXT, OWED, PORT, REFUSAL, SESSION, STAGE, START, VLE,
+    Head, ANSWER, COUNT, ENTERED, HELD, NEXT, OWED, PORT, REFUSAL, SESSION, STAGE, START, VLE,
 };
 use crate::random::Random;
+use reference::boot::Entered;
 use reference::session::{Item, Port, Session, Stage};
 use std::array;
 
@@ -309,10 +310,10 @@ impl Maker {
                 Port::Can => Port::Serial,
                 Port::Serial => Port::Can,
             };
-            rival = Some((other, Head::fresh(selected)));
+            rival = Some((other, Head::fresh(Entered::Asked, selected)));
         }
 
-        let mut head = Head::fresh(selected);
+        let mut head = Head::fresh(Entered::Asked, selected);
         let mut items = Vec::new();
         while items.len() < limit {
             let item = match &mut rival {
@@ -364,7 +365,7 @@ impl Maker {
     /// Any one item.
     pub fn item(&mut self) -> Item {
         let plan = self.plan(PUBLIC, 16);
-        let session = Session::fresh(PUBLIC);
+        let session = Session::fresh(Entered::Asked, PUBLIC);
         if self.random.chance(2) {
             self.next_item(&plan, &session)
         } else {
@@ -372,12 +373,17 @@ impl Maker {
         }
     }
 
-    /// The numbers of a session: sound, or bent about the edges of soundness, or any.
-    pub fn session(&mut self) -> [u32; SESSION_MAX] {
+    /// The numbers of a session that was entered so: sound, or bent about the edges of
+    /// soundness, or any.
+    pub fn session(&mut self, entered: u32) -> [u32; SESSION_MAX] {
         if self.random.chance(32) {
-            return array::from_fn(|_| self.random.pick(&NUMBERS));
+            return array::from_fn(|at| match at {
+                ENTERED => entered,
+                _ => self.random.pick(&NUMBERS),
+            });
         }
         let mut numbers = [0; SESSION_MAX];
+        numbers[ENTERED] = entered;
         let selected = self.selected();
         for (number, byte) in numbers.iter_mut().zip(selected) {
             *number = byte.into();
@@ -443,15 +449,15 @@ impl Maker {
         numbers
     }
 
-    /// One number of a session made another.
+    /// One number of a session made another, but not how it was entered.
     fn bend(&mut self, numbers: &mut [u32]) {
         let random = &mut self.random;
         let next = numbers[NEXT];
         let over = END.wrapping_sub(next).wrapping_add(1);
         #[rustfmt::skip]
         let (at, number) = match random.below(16) {
-            0 => (random.below(SESSION), random.number() as u32),
-            1 | 2 => (random.below(SESSION), random.pick(&NUMBERS)),
+            0 => (random.below(ENTERED), random.number() as u32),
+            1 | 2 => (random.below(ENTERED), random.pick(&NUMBERS)),
             3 => (random.below(8), 0x100 + u32::from(random.byte())),
             4 => (HELD + random.below(8), 0x100 << random.below(24)),
             5 => (STAGE, random.pick(&[1, 2, 3, 4, 5, 6, 7, 0x100, 0x103])),
@@ -476,7 +482,7 @@ impl Maker {
             lengths.session = match self.random.below(3) {
                 0 => SESSION - 1,
                 1 => SESSION + 1,
-                _ => self.random.below(SESSION_MAX + 1),
+                _ => 1 + self.random.below(SESSION_MAX),
             };
         }
         if self.random.chance(3) {

@@ -1,10 +1,13 @@
-//! The reference's sessions and answers as the header's numbers.
+//! The reference's modes, MMU rows, sessions and answers as the header's numbers.
 
+use reference::boot::{Entered, Mode};
+use reference::mmu;
 use reference::session::{Answer, Item, Port, Session, Stage};
 
-/// How many numbers a session and an answer have.
-pub const SESSION: usize = 24;
+/// How many numbers a session, an answer and the MMU rows have.
+pub const SESSION: usize = 25;
 pub const ANSWER: usize = 13;
+pub const TABLE: usize = 40;
 
 pub type Row = [u32; ANSWER];
 
@@ -18,6 +21,7 @@ pub const VLE: usize = 20;
 pub const NEXT: usize = 21;
 pub const OWED: usize = 22;
 pub const REFUSAL: usize = 23;
+pub const ENTERED: usize = 24;
 
 // Where the numbers of an answer stand, after its number.
 pub const ECHO_IDENTIFIER: usize = 1;
@@ -25,6 +29,27 @@ pub const ECHO_LENGTH: usize = 2;
 pub const ECHO: usize = 3;
 pub const JUMP: usize = 11;
 pub const JUMP_VLE: usize = 12;
+
+/// In the order of boot_assist_mode.
+pub const MODES: [Mode; 5] = [
+    Mode::Internal,
+    Mode::External,
+    Mode::Serial(Entered::Asked),
+    Mode::Serial(Entered::FromInternal),
+    Mode::Serial(Entered::FromExternal),
+];
+
+pub fn mode_number(mode: Mode) -> usize {
+    MODES.iter().position(|&other| other == mode).unwrap()
+}
+
+/// How serial boot was entered, by the number of its mode.
+pub fn entered_of(number: u32) -> Option<Entered> {
+    match MODES.get(number as usize) {
+        Some(&Mode::Serial(entered)) => Some(entered),
+        _ => None,
+    }
+}
 
 /// A session of the reference with the header's 8 places for held bytes. While a
 /// password or header fills up, the places behind keep what they had; an item that is
@@ -37,9 +62,9 @@ pub struct Head {
 }
 
 impl Head {
-    pub fn fresh(selected: [u8; 8]) -> Self {
+    pub fn fresh(entered: Entered, selected: [u8; 8]) -> Self {
         Head {
-            session: Session::fresh(selected),
+            session: Session::fresh(entered, selected),
             places: [0; 8],
         }
     }
@@ -75,6 +100,7 @@ impl Head {
         let held = places.get(..numbers[COUNT] as usize)?.to_vec();
         let head = Head {
             session: Session {
+                entered: entered_of(numbers[ENTERED])?,
                 selected: octets(numbers),
                 stage,
                 held,
@@ -91,6 +117,7 @@ impl Head {
         put(&mut numbers, &self.session.selected);
         put(&mut numbers[HELD..], &self.places);
         numbers[COUNT] = self.session.held.len() as u32;
+        numbers[ENTERED] = mode_number(Mode::Serial(self.session.entered)) as u32;
         numbers[STAGE] = match self.session.stage {
             Stage::Waiting => 0,
             Stage::Password { port } => {
@@ -162,6 +189,24 @@ pub fn only(number: u8) -> Row {
     row
 }
 
+/// Entries 0 to 4, each in the order of boot_assist_row.
+pub fn table(rows: [mmu::Row; 5]) -> [u32; TABLE] {
+    let mut numbers = [0; TABLE];
+    for (numbers, row) in numbers.chunks_mut(8).zip(rows) {
+        numbers.copy_from_slice(&[
+            row.logical,
+            row.physical,
+            row.size,
+            row.cache_inhibited.into(),
+            row.guarded.into(),
+            row.big_endian.into(),
+            row.global_pid.into(),
+            row.vle.into(),
+        ]);
+    }
+    numbers
+}
+
 fn put(numbers: &mut [u32], bytes: &[u8]) {
     for (number, &byte) in numbers.iter_mut().zip(bytes) {
         *number = byte.into();
@@ -185,6 +230,7 @@ pub fn session_name(index: usize) -> String {
         NEXT => "next".into(),
         OWED => "owed".into(),
         REFUSAL => "refusal".into(),
+        ENTERED => "entered".into(),
         _ => format!("beyond, {index}"),
     }
 }
@@ -197,6 +243,17 @@ pub fn answer_name(index: usize) -> String {
         ECHO..JUMP => format!("echo {}", index - ECHO),
         JUMP => "jump".into(),
         JUMP_VLE => "jump VLE".into(),
+        _ => format!("beyond, {index}"),
+    }
+}
+
+pub fn table_name(index: usize) -> String {
+    #[rustfmt::skip]
+    let names = [
+        "logical", "physical", "size", "inhibited", "guarded", "big endian", "global PID", "VLE",
+    ];
+    match index {
+        0..TABLE => format!("row {} {}", index / 8, names[index % 8]),
         _ => format!("beyond, {index}"),
     }
 }

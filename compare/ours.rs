@@ -18,7 +18,7 @@ extern "C" {
         password_len: usize,
     ) -> u8;
 
-    fn boot_assist_rows(mode: u8, header: u8, rows: *mut u32, rows_len: usize) -> u8;
+    fn boot_assist_choice_rows(mode: u8, rows: *mut u32, rows_len: usize) -> u8;
 
     fn boot_assist_session(
         mode: u8,
@@ -26,6 +26,13 @@ extern "C" {
         password_len: usize,
         session: *mut u32,
         session_len: usize,
+    ) -> u8;
+
+    fn boot_assist_session_rows(
+        session: *const u32,
+        session_len: usize,
+        rows: *mut u32,
+        rows_len: usize,
     ) -> u8;
 
     fn boot_assist_frame(
@@ -104,9 +111,9 @@ pub fn choice(
     }
 }
 
-pub fn rows(mode: u8, header: u8, rows: &mut [u32]) -> u8 {
+pub fn choice_rows(mode: u8, rows: &mut [u32]) -> u8 {
     // SAFETY: as above.
-    unsafe { boot_assist_rows(mode, header, rows.as_mut_ptr(), rows.len()) }
+    unsafe { boot_assist_choice_rows(mode, rows.as_mut_ptr(), rows.len()) }
 }
 
 pub fn session(mode: u8, password: &[u8], session: &mut [u32]) -> u8 {
@@ -118,6 +125,19 @@ pub fn session(mode: u8, password: &[u8], session: &mut [u32]) -> u8 {
             password.len(),
             session.as_mut_ptr(),
             session.len(),
+        )
+    }
+}
+
+/// The session is only read; it is lent so that a write to it would be seen.
+pub fn session_rows(session: &mut [u32], rows: &mut [u32]) -> u8 {
+    // SAFETY: as above.
+    unsafe {
+        boot_assist_session_rows(
+            session.as_mut_ptr(),
+            session.len(),
+            rows.as_mut_ptr(),
+            rows.len(),
         )
     }
 }

@@ -1,9 +1,11 @@
 //! The serial session: systematic inputs, random lists of items and random sessions.
 
-use crate::bench::{Bench, Lengths, Parts, BASE, RIGHT, SESSION_MAX, SRAM, SRAM_MAX};
+use crate::bench::{Bench, Lengths, Parts, BASE, RIGHT, ROWS_MAX, SESSION_MAX, SRAM, SRAM_MAX};
 use crate::exchanges;
 use crate::making::{clean, faulty, frame, header, load, Maker, END, PUBLIC};
-use crate::numbers::{ANSWER, COUNT, HELD, NEXT, OWED, PORT, REFUSAL, SESSION, STAGE, START, VLE};
+use crate::numbers::{
+    ANSWER, COUNT, ENTERED, HELD, NEXT, OWED, PORT, REFUSAL, SESSION, STAGE, START, TABLE, VLE,
+};
 use crate::random::Random;
 use crate::Tally;
 use reference::session::{Item, Port};
@@ -24,6 +26,7 @@ pub fn run(mut random: Random, count: u64, tally: &mut Tally) -> Result<(), Stri
     run.lengths()?;
     run.soundness()?;
     run.list_forms()?;
+    run.rows()?;
 
     run.bench.at_random = true;
     let mut lists = 0;
@@ -41,7 +44,8 @@ pub fn run(mut random: Random, count: u64, tally: &mut Tally) -> Result<(), Stri
     run.large_loads()
 }
 
-/// A sound session of each stage and port, data stages also with few bytes owed.
+/// A sound session of each stage and port, data stages also with few bytes owed. All were
+/// entered directly.
 fn samples() -> Vec<[u32; SESSION]> {
     let sample = |stage, port, count, [start, vle, next, owed, refusal]: [u32; 5]| {
         let mut numbers = [0; SESSION];
@@ -58,7 +62,8 @@ fn samples() -> Vec<[u32; SESSION]> {
                 0
             };
         }
-        numbers[START..].copy_from_slice(&[start, vle, next, owed, refusal]);
+        numbers[START..ENTERED].copy_from_slice(&[start, vle, next, owed, refusal]);
+        numbers[ENTERED] = 2;
         numbers
     };
     let mut samples = vec![
@@ -80,6 +85,9 @@ fn samples() -> Vec<[u32; SESSION]> {
     }
     samples
 }
+
+/// Numbers that say no way in which serial boot was entered.
+const NO_ENTRIES: [u32; 8] = [0, 1, 5, 6, 0x102, 0x103, 0x104, !0];
 
 struct Run<'a> {
     bench: Bench<'a>,
@@ -203,7 +211,7 @@ impl Run<'_> {
                     }
                 }
             }
-            for at in [STAGE, PORT, COUNT, START, VLE, NEXT, OWED, REFUSAL] {
+            for at in [STAGE, PORT, COUNT, START, VLE, NEXT, OWED, REFUSAL, ENTERED] {
                 for number in [0, 1, 2, 3, 4, 5, 6, 0x100, 0x101, 0x102, BASE, END, !0] {
                     let mut numbers = numbers;
                     numbers[at] = number;
@@ -248,7 +256,7 @@ impl Run<'_> {
         Ok(())
     }
 
-    fn both_ports(&mut self, numbers: &[u32; SESSION]) -> Result<(), String> {
+    fn both_ports(&mut self, numbers: &[u32]) -> Result<(), String> {
         self.call(numbers, &frame(0x013, &[0xA5]), RIGHT)?;
         self.call(numbers, &clean(0xA5), RIGHT)
     }
@@ -318,6 +326,40 @@ impl Run<'_> {
         Ok(())
     }
 
+    /// The rows in each stage, sound and with 8 bytes held, which is sound in none, by every
+    /// way in and with numbers that are none, with VLE 0, 1 and 2.
+    fn rows(&mut self) -> Result<(), String> {
+        for sample in samples() {
+            for count in [sample[COUNT], 8] {
+                for entered in [2, 3, 4].into_iter().chain(NO_ENTRIES) {
+                    for vle in 0..=2 {
+                        let mut numbers = sample;
+                        numbers[COUNT] = count;
+                        numbers[ENTERED] = entered;
+                        numbers[VLE] = vle;
+                        self.rows_of(&numbers)?;
+                    }
+                }
+            }
+        }
+        Ok(())
+    }
+
+    /// Outputs of every length up to ROWS_MAX, and lengths of the session about the right one.
+    fn rows_of(&mut self, numbers: &[u32]) -> Result<(), String> {
+        self.bench.fill();
+        self.bench.set(numbers);
+        for rows_len in 0..=ROWS_MAX {
+            self.bench.rows(SESSION, rows_len)?;
+        }
+        for session_len in [0, SESSION - 1, SESSION + 1, SESSION_MAX] {
+            for rows_len in [0, TABLE] {
+                self.bench.rows(session_len, rows_len)?;
+            }
+        }
+        Ok(())
+    }
+
     /// Lists with resets between them, which SRAM outlasts. Answers how many.
     fn random_lists(&mut self) -> Result<u64, String> {
         self.bench.fill();
@@ -333,11 +375,26 @@ impl Run<'_> {
         Ok(count)
     }
 
-    /// A random session. If it is sound, items are run on it.
+    /// A random session, and now and then the same with a number that is no way in. These
+    /// numbers are not drawn by the maker, so that what it makes does not hang on them.
     fn random_session(&mut self) -> Result<(), String> {
-        let numbers = self.maker.session();
+        let entered = self.bench.random.pick(&[2, 3, 4]);
+        let mut numbers = self.maker.session(entered);
+        self.session(&numbers)?;
+        if self.bench.random.chance(8) {
+            numbers[ENTERED] = self.bench.random.pick(&NO_ENTRIES);
+            self.both_ports(&numbers)?;
+            let parts = Parts::of(&[clean(0xA5)], &mut self.bench.random);
+            self.bench.refused_list(&parts, RIGHT)?;
+        }
+        Ok(())
+    }
+
+    /// A session of these numbers. If it is sound, items are run on it.
+    fn session(&mut self, numbers: &[u32]) -> Result<(), String> {
         self.bench.fill();
-        self.bench.set(&numbers);
+        self.bench.set(numbers);
+        self.bench.rows_at_hand()?;
         let Some(head) = self.bench.head() else {
             let items = [self.maker.item(), self.maker.item()];
             for item in &items {

@@ -53,7 +53,7 @@ static void show_choice(const uint32_t fields[BOOT_ASSIST_FIELDS_LENGTH], const 
 static void show_rows(uint8_t mode)
 {
     uint32_t rows[BOOT_ASSIST_TABLE_LENGTH];
-    uint8_t number = boot_assist_rows(mode, BOOT_ASSIST_HEADER_NONE, rows, BOOT_ASSIST_TABLE_LENGTH);
+    uint8_t number = boot_assist_choice_rows(mode, rows, BOOT_ASSIST_TABLE_LENGTH);
     if (number != 0) {
         printf("MMU rows  number %u\n", number);
         return;

@@ -68,6 +68,18 @@ static uint8_t hand_in(uint32_t *session, const size_t *record, uint32_t *answer
                             record[BOOT_ASSIST_RECORD_KIND] == BOOT_ASSIST_KIND_FAULTY, answer, BOOT_ASSIST_ANSWER_LENGTH);
 }
 
+/* The VLE of the session's MMU rows, entries 0 to 4. */
+static void show_vle(const uint32_t *session)
+{
+    uint32_t rows[BOOT_ASSIST_TABLE_LENGTH];
+    if (boot_assist_session_rows(session, BOOT_ASSIST_SESSION_LENGTH, rows, BOOT_ASSIST_TABLE_LENGTH) != 0)
+        return;
+    printf("rows' VLE");
+    for (int at = BOOT_ASSIST_ROW_VLE; at < BOOT_ASSIST_TABLE_LENGTH; at += BOOT_ASSIST_ROW_LENGTH)
+        printf(" %u", (unsigned)rows[at]);
+    printf("\n");
+}
+
 int main(int argc, char **argv)
 {
     FILE *file = argc == 4 ? fopen(argv[3], "rb") : NULL;
@@ -103,5 +115,6 @@ int main(int argc, char **argv)
     int held = memcmp(sram + (jump - SRAM_START), image, len) == 0;
     printf("jump      %08X\nVLE       %u\nSRAM      %s\n", (unsigned)jump, (unsigned)answer[BOOT_ASSIST_ANSWER_VLE],
            held ? "holds the image" : "does not hold the image");
+    show_vle(session);
     return held ? 0 : 1;
 }

@@ -15,13 +15,13 @@
  *    5  the last byte is stored: the head jumps
  *    6  the frame's identifier is above 2047 or its count above 8; of a list: its parts do not fit each other
  *    7  SRAM is not 65536 bytes
- *    8  the session is not sound, or no session has these numbers, or they are not 24
+ *    8  the session is not sound, or no session has these numbers, or they are not 25
  *    9  BOOTCFG, the flash, the shadow row or the external head is of a size that is not allowed;
  *       here also an output of another length (but for the session of an item or a list: 8, and the answers of a
- *       list: 6), a mode or header that is none of the numbers below, and for a fresh session a mode that is not
- *       serial or a password that is not 8 bytes
+ *       list: 6), a mode that is none of the numbers below, and for a fresh session a mode that is not serial or a
+ *       password that is not 8 bytes
  *   10  the capture's record is not whole or breaks its rules, or the starting place is past the end
- *   11  rows of external boot were asked for, whatever the header and the output's length
+ *   11  rows of external boot were asked for, of a choice or of a sound session, whatever the output's length
  */
 #ifndef BOOT_ASSIST_H
 #define BOOT_ASSIST_H
@@ -75,15 +75,6 @@ uint8_t boot_assist_choice(uint8_t bootcfg,
                            uint32_t *fields, size_t fields_len,
                            uint8_t *password, size_t password_len);
 
-/* The header of a serial session, which sets or clears VLE on entries 1 to 3: a session in the data or jumped stage
- * has accepted one, with the VLE among its numbers. Internal boot has no session, so its rows are asked with
- * BOOT_ASSIST_HEADER_NONE; another header is taken as it is handed in. */
-enum boot_assist_header {
-    BOOT_ASSIST_HEADER_NONE = 0,  /* no header was accepted */
-    BOOT_ASSIST_HEADER_VLE_0 = 1, /* accepted, with VLE 0 */
-    BOOT_ASSIST_HEADER_VLE_1 = 2  /* accepted, with VLE 1 */
-};
-
 /* The numbers of an MMU row. */
 enum boot_assist_row {
     BOOT_ASSIST_ROW_LOGICAL = 0,         /* logical base address */
@@ -99,15 +90,17 @@ enum boot_assist_row {
 };
 
 /*
- * The MMU rows of internal boot, and of serial boot entered directly or from internal.
+ * The MMU rows of a boot choice: of internal boot, and of serial boot entered directly or from internal. A choice has
+ * accepted no header, so VLE is clear in every row.
  *
- * mode          a boot_assist_mode
- * header        a boot_assist_header
- * rows          BOOT_ASSIST_TABLE_LENGTH numbers: entries 0 to 4 one after the other, each in the order of boot_assist_row
+ * mode          the choice's boot_assist_mode
+ * rows          BOOT_ASSIST_TABLE_LENGTH numbers, written: entries 0 to 4 one after the other, each in the order of
+ *               boot_assist_row
  *
- * Returns 0, 9, or 11 for external boot and for serial boot entered from external.
+ * Returns 0; or 9 for a number that is no mode, then 11 for external boot and for serial boot entered from external,
+ * then 9 for rows of another length.
  */
-uint8_t boot_assist_rows(uint8_t mode, uint8_t header, uint32_t *rows, size_t rows_len);
+uint8_t boot_assist_choice_rows(uint8_t mode, uint32_t *rows, size_t rows_len);
 
 /* The stages of a session. */
 enum boot_assist_stage {
@@ -125,7 +118,7 @@ enum boot_assist_port { BOOT_ASSIST_PORT_CAN = 0, BOOT_ASSIST_PORT_SERIAL = 1 };
  * serial), header and data stages; start and VLE are those of the data and jumped stages; the next address and
  * the bytes owed are those of the data stage; the refusal is that of the stopped stage. The places of HELD behind
  * COUNT may hold any byte; they keep it while more bytes are gathered, and after an item that is taken and leaves
- * none held all are 0. */
+ * none held all are 0. The password selected and ENTERED are those of every stage, and no item changes them. */
 enum boot_assist_session_number {
     BOOT_ASSIST_SESSION_SELECTED = 0, /* 8 bytes: the password selected by the boot choice */
     BOOT_ASSIST_SESSION_STAGE = 8,    /* a boot_assist_stage */
@@ -137,7 +130,8 @@ enum boot_assist_session_number {
     BOOT_ASSIST_SESSION_NEXT = 21,    /* the address of the next byte */
     BOOT_ASSIST_SESSION_OWED = 22,    /* how many bytes are still owed */
     BOOT_ASSIST_SESSION_REFUSAL = 23, /* the number that stopped the session: 2, 3 or 4 */
-    BOOT_ASSIST_SESSION_LENGTH = 24
+    BOOT_ASSIST_SESSION_ENTERED = 24, /* how serial boot was entered: the boot_assist_mode of its choice, 2, 3 or 4 */
+    BOOT_ASSIST_SESSION_LENGTH = 25
 };
 
 /*
@@ -152,6 +146,18 @@ enum boot_assist_session_number {
 uint8_t boot_assist_session(uint8_t mode,
                             const uint8_t *password, size_t password_len,
                             uint32_t *session, size_t session_len);
+
+/*
+ * The MMU rows of a session. VLE on entries 1 to 3 is that of the header which the session has accepted: of its load in
+ * the data stage, of its jump in the jumped stage. In every other stage it has accepted none, and VLE is clear.
+ *
+ * session       BOOT_ASSIST_SESSION_LENGTH numbers, as the last call left them; only read
+ * rows          as for a boot choice, written
+ *
+ * Returns 0; or 8, then 11 for serial boot entered from external, then 9 for rows of another length.
+ */
+uint8_t boot_assist_session_rows(const uint32_t *session, size_t session_len,
+                                 uint32_t *rows, size_t rows_len);
 
 /* The numbers of an answer. Where there is no echo its identifier, length and bytes are 0; the identifier is 0 for
  * serial too. The jump address and VLE are 0 unless the number is 5. */

@@ -103,6 +103,8 @@ pub fn load(selected: &[u8; 8], plain: &[u8]) -> Option<Load> {
 #[cfg(test)]
 mod tests {
     use super::*;
+    use crate::boot::Entered;
+    use crate::mmu::session_rows;
     use crate::session::tests::{any_item, clean, faulty, frame, header, memory, Xorshift, PUBLIC};
     use crate::session::{Answer, Session};
 
@@ -142,7 +144,8 @@ mod tests {
         }
 
         // The stream alone, on its own session and SRAM, keeps pace with the whole list.
-        let (mut session, mut sram) = (Session::fresh(selected), before.to_vec());
+        let mut session = Session::fresh(Entered::Asked, selected);
+        let mut sram = before.to_vec();
         let (mut session_alone, mut sram_alone) = (session.clone(), sram.clone());
         let mut jumps = Vec::new();
         for (i, item) in items.iter().enumerate() {
@@ -173,6 +176,11 @@ mod tests {
             expected[from..from + data.len()].copy_from_slice(data);
         }
         assert!(sram == expected, "{items:?}");
+
+        // The rows after the list have the VLE of the header that was accepted.
+        let vle = accepted(&selected, &plain).is_some_and(|(header, _)| header.vle);
+        let rows = session_rows(&session).unwrap();
+        assert_eq!(rows.map(|row| row.vle), [false, vle, vle, vle, false]);
         if let Some(load) = &load {
             let from = (load.start - BASE) as usize;
             let to = from + load.bytes.len();

@@ -2,13 +2,7 @@
 //! 000, Table 16-2 and section 16.3.2.3.1; source document 003, section 21.5.5.4.
 
 use crate::boot::{Entered, Mode};
-
-/// Whether a download header was accepted, and its VLE bit.
-#[derive(Debug, Clone, Copy, PartialEq, Eq)]
-pub enum Header {
-    NotAccepted,
-    Accepted { vle: bool },
-}
+use crate::session::{Session, NOT_SOUND};
 
 /// One TLB entry.
 #[derive(Debug, Clone, Copy, PartialEq, Eq)]
@@ -66,8 +60,23 @@ const fn entry(
     }
 }
 
-/// The rows of a boot mode, or number 11 where they are those of an external boot.
-pub fn rows(mode: Mode, header: Header) -> Result<[Row; 5], u8> {
+/// The rows of a boot choice, or number 11 where they are those of an external boot.
+/// A choice has accepted no header.
+pub fn choice_rows(mode: Mode) -> Result<[Row; 5], u8> {
+    rows(mode, None)
+}
+
+/// The rows of a session: number 8 where it is not sound, then 11 where they are those
+/// of an external boot.
+pub fn session_rows(session: &Session) -> Result<[Row; 5], u8> {
+    if !session.sound() {
+        return Err(NOT_SOUND);
+    }
+    rows(Mode::Serial(session.entered), session.accepted_vle())
+}
+
+/// `vle` is the bit of the header that was accepted, if one was.
+fn rows(mode: Mode, vle: Option<bool>) -> Result<[Row; 5], u8> {
     // 000, 16.3.2.3.1: serial boot has the internal set-up if it was entered directly
     // or from internal boot, and the external one if it was entered from there.
     match mode {
@@ -78,7 +87,7 @@ pub fn rows(mode: Mode, header: Header) -> Result<[Row; 5], u8> {
     // is clear where no header was accepted.
     let mut rows = TABLE_16_2;
     for row in &mut rows[1..=3] {
-        row.vle = header == Header::Accepted { vle: true };
+        row.vle = vle == Some(true);
     }
     Ok(rows)
 }
@@ -86,17 +95,19 @@ pub fn rows(mode: Mode, header: Header) -> Result<[Row; 5], u8> {
 #[cfg(test)]
 mod tests {
     use super::*;
+    use crate::boot::choose;
+    use crate::session::tests::{
+        any_item, any_session, clean, frame, header, memory, not_sound, sound, Xorshift, ENTRIES,
+        PUBLIC,
+    };
+    use crate::session::{Item, Port, Stage};
 
     const WITH_INTERNAL_ROWS: [Mode; 3] = [
         Mode::Internal,
         Mode::Serial(Entered::Asked),
         Mode::Serial(Entered::FromInternal),
     ];
-    const HEADERS: [Header; 3] = [
-        Header::NotAccepted,
-        Header::Accepted { vle: false },
-        Header::Accepted { vle: true },
-    ];
+    const BASE: u32 = 0x4000_0000;
 
     /// Entries 0 to 4 as (logical, physical, size), in 01's table.
     const REGIONS: [(u32, u32, u32); 5] = [
@@ -107,28 +118,57 @@ mod tests {
         (0xC3F0_0000, 0xC3F0_0000, 1_048_576),
     ];
 
-    /// Runs `check` on every answered call.
-    fn for_all(check: impl Fn(Header, [Row; 5])) {
+    fn regions(rows: [Row; 5]) -> [(u32, u32, u32); 5] {
+        rows.map(|row| (row.logical, row.physical, row.size))
+    }
+
+    const CLEAR: [bool; 5] = [false; 5];
+    const SET: [bool; 5] = [false, true, true, true, false];
+
+    /// The VLE of the rows of a session that is answered.
+    fn vle(session: &Session) -> [bool; 5] {
+        session_rows(session).unwrap().map(|row| row.vle)
+    }
+
+    /// The items of a load of two bytes.
+    fn load(port: Port, password: &[u8; 8], header: &[u8; 8]) -> Vec<Item> {
+        let data = [0xA5, 0x5A];
+        match port {
+            Port::Can => vec![
+                frame(0x011, password),
+                frame(0x012, header),
+                frame(0x013, &data[..1]),
+                frame(0x013, &data[1..]),
+            ],
+            Port::Serial => [password, &header[..], &data]
+                .concat()
+                .into_iter()
+                .map(clean)
+                .collect(),
+        }
+    }
+
+    /// Runs `check` on the rows of every boot choice and of every sound session that
+    /// are answered.
+    fn for_all(check: impl Fn([Row; 5])) {
         for mode in WITH_INTERNAL_ROWS {
-            for header in HEADERS {
-                check(header, rows(mode, header).unwrap());
+            check(choice_rows(mode).unwrap());
+        }
+        for session in sound() {
+            if session.entered != Entered::FromExternal {
+                check(session_rows(&session).unwrap());
             }
         }
     }
 
     #[test]
     fn addresses_and_sizes() {
-        for_all(|_, rows| {
-            assert_eq!(
-                rows.map(|row| (row.logical, row.physical, row.size)),
-                REGIONS
-            );
-        });
+        for_all(|rows| assert_eq!(regions(rows), REGIONS));
     }
 
     #[test]
     fn attributes() {
-        for_all(|_, rows| {
+        for_all(|rows| {
             let cache_inhibited = rows.map(|row| row.cache_inhibited);
             assert_eq!(cache_inhibited, [true, false, false, true, true]);
             let guarded = rows.map(|row| row.guarded);
@@ -139,23 +179,156 @@ mod tests {
     }
 
     #[test]
-    fn vle_is_set_on_entries_1_to_3_by_an_accepted_header_alone() {
-        for_all(|header, rows| {
-            let expected = match header {
-                Header::Accepted { vle: true } => [false, true, true, true, false],
-                Header::Accepted { vle: false } | Header::NotAccepted => [false; 5],
+    fn vle_is_clear_in_the_rows_of_a_choice() {
+        for mode in WITH_INTERNAL_ROWS {
+            assert_eq!(choice_rows(mode).unwrap().map(|row| row.vle), CLEAR);
+        }
+    }
+
+    #[test]
+    fn vle_is_set_on_entries_1_to_3_where_a_header_with_vle_1_was_accepted() {
+        let mut seen = [0; 6];
+        for session in sound() {
+            if session.entered == Entered::FromExternal {
+                continue;
+            }
+            let (stage, expected) = match session.stage {
+                Stage::Waiting => (0, CLEAR),
+                Stage::Password { .. } => (1, CLEAR),
+                Stage::Header { .. } => (2, CLEAR),
+                Stage::Data { vle: true, .. } => (3, SET),
+                Stage::Data { vle: false, .. } => (3, CLEAR),
+                Stage::Stopped { .. } => (4, CLEAR),
+                Stage::Jumped { vle: true, .. } => (5, SET),
+                Stage::Jumped { vle: false, .. } => (5, CLEAR),
             };
-            assert_eq!(rows.map(|row| row.vle), expected);
-        });
+            assert_eq!(vle(&session), expected, "{session:?}");
+            seen[stage] += 1;
+        }
+        assert!(seen.iter().all(|&count| count > 0), "{seen:?}");
+    }
+
+    /// Item by item: the header counts from the item that completes it on, to the end.
+    #[test]
+    fn vle_follows_the_header_of_a_load() {
+        for (port, header_in, items) in [(Port::Can, 2, 4), (Port::Serial, 16, 18)] {
+            for (size, accepted) in [(2, CLEAR), (0x8000_0002, SET)] {
+                for entered in [Entered::Asked, Entered::FromInternal] {
+                    let mut session = Session::fresh(entered, PUBLIC);
+                    let mut sram = memory();
+                    assert_eq!(vle(&session), CLEAR);
+                    let load = load(port, &PUBLIC, &header(BASE, size));
+                    assert_eq!(load.len(), items);
+                    for (count, item) in (1..).zip(&load) {
+                        session.item(&mut sram, item);
+                        let expected = if count < header_in { CLEAR } else { accepted };
+                        assert_eq!(vle(&session), expected, "{count} of {port:?}");
+                    }
+                    assert!(matches!(session.stage, Stage::Jumped { .. }));
+                    // A jumped session ignores another header.
+                    for item in [frame(0x012, &header(BASE, size ^ 1 << 31)), clean(0x80)] {
+                        assert_eq!(session.item(&mut sram, &item).number, 1);
+                        assert_eq!(vle(&session), accepted);
+                    }
+                }
+            }
+        }
+    }
+
+    /// Neither a header that is refused nor one behind a wrong password was accepted.
+    #[test]
+    fn vle_is_clear_where_the_header_was_refused() {
+        let mut wrong = PUBLIC;
+        wrong[7] ^= 1;
+        for (password, header, number) in [
+            (PUBLIC, header(BASE, 0x8000_0000), 3),
+            (PUBLIC, header(0, 0x8000_0000), 3),
+            (PUBLIC, header(BASE, 0x8001_0001), 4),
+            (PUBLIC, header(BASE - 4, 0x8000_0001), 4),
+            (PUBLIC, header(!0, !0), 4),
+            (wrong, header(BASE, 0x8000_0002), 2),
+        ] {
+            for port in [Port::Can, Port::Serial] {
+                let mut session = Session::fresh(Entered::Asked, PUBLIC);
+                for item in load(port, &password, &header) {
+                    session.item(&mut memory(), &item);
+                    assert_eq!(vle(&session), CLEAR);
+                }
+                assert_eq!(session.stage, Stage::Stopped { number });
+            }
+        }
     }
 
     #[test]
     fn external_rows_are_refused() {
         for mode in [Mode::External, Mode::Serial(Entered::FromExternal)] {
-            for header in HEADERS {
-                assert_eq!(rows(mode, header), Err(11));
+            assert_eq!(choice_rows(mode), Err(11));
+        }
+        let mut count = 0;
+        for session in sound() {
+            if session.entered == Entered::FromExternal {
+                assert_eq!(session_rows(&session), Err(11), "{session:?}");
+                count += 1;
             }
         }
+        assert!(count > 0);
+    }
+
+    /// 8 comes before 11.
+    #[test]
+    fn a_session_that_is_not_sound_has_no_rows() {
+        for session in not_sound() {
+            for entered in ENTRIES {
+                let session = Session {
+                    entered,
+                    ..session.clone()
+                };
+                assert_eq!(session_rows(&session), Err(8), "{session:?}");
+            }
+        }
+    }
+
+    /// A serial choice and the session it gives have the same rows.
+    #[test]
+    fn a_choice_hands_its_rows_on_to_its_session() {
+        let shadow = b"\x01\x02\x03\x04\x05\x06\x07\x08\x55\xAA\x55\xAA";
+        for (bootcfg, expected) in [
+            (0, Entered::FromInternal),
+            (1, Entered::Asked),
+            (2, Entered::FromExternal),
+            (3, Entered::FromExternal),
+        ] {
+            let choice = choose(bootcfg, &[], shadow, &[0; 8]).unwrap();
+            let Mode::Serial(entered) = choice.mode else {
+                panic!("{choice:?}");
+            };
+            assert_eq!(entered, expected);
+            let session = Session::fresh(entered, choice.password);
+            assert_eq!(session_rows(&session), choice_rows(choice.mode));
+            assert_eq!(session_rows(&session).is_err(), bootcfg >= 2);
+        }
+    }
+
+    /// Rows are asked of any session, between any items.
+    #[test]
+    fn rows_of_any_session() {
+        let mut rng = Xorshift(0x0003_0255);
+        let mut seen = [0; 12];
+        for _ in 0..20_000 {
+            let mut session = any_session(&mut rng);
+            for _ in 0..3 {
+                let expected = match session.entered {
+                    _ if !session.sound() => Err(8),
+                    Entered::FromExternal => Err(11),
+                    _ => Ok(REGIONS),
+                };
+                let regions = session_rows(&session).map(regions);
+                assert_eq!(regions, expected, "{session:?}");
+                seen[usize::from(expected.err().unwrap_or(0))] += 1;
+                session.item(&mut memory(), &any_item(&mut rng));
+            }
+        }
+        assert!([0, 8, 11].iter().all(|&number| seen[number] > 0));
     }
 
     #[test]
@@ -170,10 +343,13 @@ mod tests {
             global_pid: true,
             vle: true,
         };
-        let serial = Mode::Serial(Entered::Asked);
-        assert_eq!(
-            rows(serial, Header::Accepted { vle: true }).unwrap()[3],
-            sram
-        );
+        let session = Session {
+            stage: Stage::Jumped {
+                start: BASE,
+                vle: true,
+            },
+            ..Session::fresh(Entered::Asked, PUBLIC)
+        };
+        assert_eq!(session_rows(&session).unwrap()[3], sram);
     }
 }

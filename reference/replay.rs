@@ -4,7 +4,7 @@
 
 use std::io::{self, ErrorKind, Read, Write};
 
-use crate::boot::PUBLIC_PASSWORD;
+use crate::boot::{Entered, PUBLIC_PASSWORD};
 use crate::capture;
 use crate::session::{Session, Stage, SRAM_SIZE};
 
@@ -50,10 +50,16 @@ struct Replay {
     text: Vec<u8>,
 }
 
+/// The session of a serial boot that was asked for. The text is the same for one that
+/// was entered otherwise.
+fn fresh() -> Session {
+    Session::fresh(Entered::Asked, PUBLIC_PASSWORD)
+}
+
 impl Replay {
     fn new() -> Replay {
         Replay {
-            session: Session::fresh(PUBLIC_PASSWORD),
+            session: fresh(),
             sram: vec![0; SRAM_SIZE as usize],
             count: 0,
             text: Vec::new(),
@@ -90,7 +96,7 @@ impl Replay {
             self.line(reply.number, reply.echo.map_or(&[], |(_, data)| data));
         } else {
             // A reset is a new boot choice; SRAM keeps its bytes.
-            self.session = Session::fresh(PUBLIC_PASSWORD);
+            self.session = fresh();
             self.line(0, &[]);
         }
     }
@@ -312,7 +318,7 @@ mod tests {
         replay.part(&capture[2..].concat(), true);
         assert_eq!(replay.sram[8..12], [0x5A; 4]);
         assert!(replay.sram[12..].iter().all(|&byte| byte == 0));
-        assert_eq!(replay.session, Session::fresh(PUBLIC));
+        assert_eq!(replay.session, fresh());
     }
 
     #[test]
@@ -585,12 +591,12 @@ mod tests {
         for _ in 0..300 {
             let mut capture = Vec::new();
             let mut expected = String::new();
-            let (mut session, mut sram) = (Session::fresh(PUBLIC), vec![0; 65_536]);
+            let (mut session, mut sram) = (fresh(), vec![0; 65_536]);
             for count in 1..=rng.below(400) {
                 let (record, item) = any_record(&mut rng);
                 capture.extend(record);
                 let Some(item) = item else {
-                    session = Session::fresh(PUBLIC);
+                    session = fresh();
                     expected += &format!("{count} 0 -\n");
                     continue;
                 };

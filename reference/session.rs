@@ -5,6 +5,7 @@
 //! detection, which is left out: a clean byte 0x00 opens serial like any other, and a
 //! frame 0x000 is ignored.
 
+use crate::boot::Entered;
 pub use crate::merging::{load, picked, plain, stream, Load};
 
 /// The interface a session listens to.
@@ -52,6 +53,8 @@ pub enum Stage {
 
 #[derive(Clone, PartialEq, Eq, Debug)]
 pub struct Session {
+    /// How the boot choice entered serial boot. No item changes it.
+    pub entered: Entered,
     /// The password the boot choice selected.
     pub selected: [u8; 8],
     pub stage: Stage,
@@ -83,7 +86,7 @@ const NOT_IN_SRAM: u8 = 4;
 const LAST_BYTE_STORED: u8 = 5;
 const FRAME_FORM: u8 = 6;
 const SRAM_LENGTH: u8 = 7;
-const NOT_SOUND: u8 = 8;
+pub(crate) const NOT_SOUND: u8 = 8;
 
 /// 01, "A serial session": SRAM is 65,536 bytes at 0x4000_0000.
 const SRAM_BASE: u32 = 0x4000_0000;
@@ -220,8 +223,9 @@ impl Reply<'_> {
 
 impl Session {
     /// The session a serial boot choice gives.
-    pub fn fresh(selected: [u8; 8]) -> Session {
+    pub fn fresh(entered: Entered, selected: [u8; 8]) -> Session {
         Session {
+            entered,
             selected,
             stage: Stage::Waiting,
             held: Vec::new(),
@@ -229,8 +233,8 @@ impl Session {
     }
 
     /// 01, "A session is sound if its counts fit its stage". The sentence asks nothing
-    /// of a stopped session's number, of a jumped session's start or of the selected
-    /// password, so any value of these is sound.
+    /// of a stopped session's number, of a jumped session's start, of the selected
+    /// password or of how serial boot was entered, so any value of these is sound.
     pub fn sound(&self) -> bool {
         let held = self.held.len();
         match self.stage {
@@ -249,6 +253,18 @@ impl Session {
                     && in_sram(start, 1)
                     && start <= next
             }
+        }
+    }
+
+    /// The VLE bit of the header that was accepted. A session has accepted one if it
+    /// waits for data or has jumped; a header that is refused stops it.
+    pub(crate) fn accepted_vle(&self) -> Option<bool> {
+        match self.stage {
+            Stage::Data { vle, .. } | Stage::Jumped { vle, .. } => Some(vle),
+            Stage::Waiting
+            | Stage::Password { .. }
+            | Stage::Header { .. }
+            | Stage::Stopped { .. } => None,
         }
     }
 
@@ -400,6 +416,8 @@ pub(crate) mod tests {
     pub(crate) const PUBLIC: [u8; 8] = *b"\xFE\xED\xFA\xCE\xCA\xFE\xBE\xEF";
     const BASE: u32 = 0x4000_0000;
     const SIZE: usize = 65_536;
+    pub(crate) const ENTRIES: [Entered; 3] =
+        [Entered::Asked, Entered::FromInternal, Entered::FromExternal];
     /// 002, Table 14: start 0x4000_0000, VLE, 0x1400 bytes.
     const HEADER: [u8; 8] = [0x40, 0, 0, 0, 0x80, 0, 0x14, 0];
 
@@ -463,13 +481,17 @@ pub(crate) mod tests {
         (0..SIZE).map(|i| (i * 37 + i / 256) as u8).collect()
     }
 
+    /// A fresh session of a serial boot that was asked for.
+    fn fresh(selected: [u8; 8]) -> Session {
+        Session::fresh(Entered::Asked, selected)
+    }
+
     fn at(stage: Stage, held: usize) -> Session {
-        let selected = PUBLIC;
         let held = PUBLIC.repeat(2)[..held].to_vec();
         Session {
-            selected,
             stage,
             held,
+            ..fresh(PUBLIC)
         }
     }
 
@@ -532,7 +554,7 @@ pub(crate) mod tests {
 
     /// The number a password gets, and the session it leaves.
     fn password_gets(port: Port, selected: [u8; 8], password: [u8; 8]) -> (u8, Session) {
-        let mut session = Session::fresh(selected);
+        let mut session = fresh(selected);
         let number = hand_in(&mut session, port, 0x011, &password);
         (number, session)
     }
@@ -641,7 +663,7 @@ pub(crate) mod tests {
     /// The session of 01's capture: FE, then a frame 0x012 with AA BB.
     #[test]
     fn run_the_capture_of_document_01() {
-        let (mut session, mut sram) = (Session::fresh(PUBLIC), vec![0; SIZE]);
+        let (mut session, mut sram) = (fresh(PUBLIC), vec![0; SIZE]);
         let answer = session.item(&mut sram, &clean(0xFE));
         assert_eq!(answer, echoed(0, None, &[0xFE]));
         let answer = session.item(&mut sram, &frame(0x012, &[0xAA, 0xBB]));
@@ -666,7 +688,7 @@ pub(crate) mod tests {
                 (0x012, header(0x4000_0000, size).to_vec(), 0x002),
             ];
             exchange.extend(program.chunks(8).map(|data| (0x013, data.to_vec(), 0x003)));
-            let (mut session, mut sram) = (Session::fresh(PUBLIC), memory());
+            let (mut session, mut sram) = (fresh(PUBLIC), memory());
             let last = exchange.len() - 1;
             for (i, (identifier, data, echo)) in exchange.into_iter().enumerate() {
                 let answer = session.item(&mut sram, &frame(identifier, &data));
@@ -692,7 +714,7 @@ pub(crate) mod tests {
         // Table 13.
         let program = Xorshift(0xE5C1).bytes(0x1400);
         let bytes = [&PUBLIC[..], &HEADER, &program].concat();
-        let (mut session, mut sram) = (Session::fresh(PUBLIC), memory());
+        let (mut session, mut sram) = (fresh(PUBLIC), memory());
         for (count, &byte) in (1..).zip(&bytes) {
             let mut expected = echoed(0, None, &[byte]);
             if count == bytes.len() {
@@ -712,7 +734,7 @@ pub(crate) mod tests {
     /// 002, 4.1.3 and 5.4: baud rate detection is no part of the session.
     #[test]
     fn document_002_synchronization() {
-        let mut session = Session::fresh(PUBLIC);
+        let mut session = fresh(PUBLIC);
         unmoved(&session, &memory(), &frame(0x000, &[]), 1);
         assert_eq!(
             session.item(&mut memory(), &clean(0)),
@@ -767,7 +789,7 @@ pub(crate) mod tests {
 
     #[test]
     fn slip_faulty_byte_opens_serial() {
-        let mut session = Session::fresh(PUBLIC);
+        let mut session = fresh(PUBLIC);
         unmoved(&session, &memory(), &faulty(0xFE), 1);
         let answer = session.item(&mut memory(), &frame(0x011, &PUBLIC));
         assert_eq!(answer, echoed(0, Some(0x001), &PUBLIC));
@@ -894,7 +916,7 @@ pub(crate) mod tests {
         for wrong in 0..8 {
             let mut password = PUBLIC;
             password[wrong] ^= 0x10;
-            let (mut session, mut sram) = (Session::fresh(PUBLIC), memory());
+            let (mut session, mut sram) = (fresh(PUBLIC), memory());
             for i in 0..7 {
                 let answer = session.item(&mut sram, &clean(password[i]));
                 assert_eq!(answer, echoed(0, None, &password[i..=i]));
@@ -905,7 +927,7 @@ pub(crate) mod tests {
             assert_eq!(answer, echoed(2, None, &password[7..]));
             assert_eq!(session, at(Stage::Stopped { number: 2 }, 0));
 
-            let mut session = Session::fresh(PUBLIC);
+            let mut session = fresh(PUBLIC);
             let answer = session.item(&mut sram, &frame(0x011, &password));
             assert_eq!(answer, echoed(2, Some(0x001), &password));
             assert_eq!(session, at(Stage::Stopped { number: 2 }, 0));
@@ -1047,7 +1069,7 @@ pub(crate) mod tests {
 
     // 01, "A session is sound if its counts fit its stage".
 
-    fn sound() -> Vec<Session> {
+    pub(crate) fn sound() -> Vec<Session> {
         let end = BASE + 65_536;
         let mut sessions = vec![
             at(Stage::Waiting, 0),
@@ -1069,7 +1091,16 @@ pub(crate) mod tests {
                 (end - 4, end - 1, 1),
                 (BASE + 4, BASE + 4, 1),
             ] {
-                sessions.push(at(data(port, start, next, owed), 0));
+                for vle in [false, true] {
+                    let stage = Stage::Data {
+                        port,
+                        start,
+                        vle,
+                        next,
+                        owed,
+                    };
+                    sessions.push(at(stage, 0));
+                }
             }
         }
         // Nothing is asked of these fields.
@@ -1081,14 +1112,21 @@ pub(crate) mod tests {
                 sessions.push(at(Stage::Jumped { start, vle }, 0));
             }
         }
-        for mut session in sessions.clone() {
-            session.selected = [0; 8];
-            sessions.push(session);
+        let asked = sessions.clone();
+        for (entered, selected) in [
+            (Entered::FromInternal, PUBLIC),
+            (Entered::FromExternal, [0; 8]),
+        ] {
+            sessions.extend(asked.iter().cloned().map(|session| Session {
+                entered,
+                selected,
+                ..session
+            }));
         }
         sessions
     }
 
-    fn not_sound() -> Vec<Session> {
+    pub(crate) fn not_sound() -> Vec<Session> {
         let end = BASE + 65_536;
         let (start, vle) = (BASE, false);
         let mut sessions = Vec::new();
@@ -1166,7 +1204,7 @@ pub(crate) mod tests {
     // Any session, any SRAM and any item.
 
     /// About half of these sessions are sound.
-    fn any_session(rng: &mut Xorshift) -> Session {
+    pub(crate) fn any_session(rng: &mut Xorshift) -> Session {
         let port = rng.pick(&[Port::Can, Port::Serial]);
         let vle = rng.one_in(2);
         let near = rng.pick(&[BASE, BASE + 8, BASE + 65_528, BASE + 65_536, 0]);
@@ -1195,6 +1233,7 @@ pub(crate) mod tests {
             _ => 0,
         };
         Session {
+            entered: rng.pick(&ENTRIES),
             selected: PUBLIC,
             stage,
             held: rng.bytes(held),
@@ -1244,6 +1283,7 @@ pub(crate) mod tests {
                 assert!(after.sound());
             }
             assert_eq!(after.selected, session.selected);
+            assert_eq!(after.entered, session.entered);
             assert_eq!(answer.jump.is_some(), answer.number == 5);
             if matches!(answer.number, 1 | 6 | 7 | 8) {
                 assert_eq!(answer, only(answer.number));
