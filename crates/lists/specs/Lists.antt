@@ -4,7 +4,7 @@ use Prim.Native.Nat.{ℕ}
 use mathlib.Core.List.{List, [], _∷_, _++_, map}
 use mathlib.Core.Bool.{true, false}
 use mathlib.Core.Option.{none}
-use lib.ListN.{take, drop, replicate}
+use lib.ListN.{take, replicate}
 use Rattle.controls.specs.Table.{publicPassword}
 use Rattle.stages.specs.declared.Port.{Port}
 use Rattle.stages.specs.declared.Stage.{Stage}
@@ -131,9 +131,7 @@ listTable =
     ((faulty 0xFE ∷ clean 0xFE ∷ [])
     ++ opened
     ++ (clean 0xAA ∷ faulty 0xBB ∷ []))
-    ∷ trial (numbersOf (runOf finished)) ((1 ∷ 1 ∷ 0 ∷ 1 ∷ []) ++ replicate 16 0 ++ (6 ∷ 1 ∷ 5 ∷ 1 ∷ []))
     ∷ trial (jumpsIn (runOf finished .calls)) (Outcome.Jumps (record { start = record { 0 = 0x40000004 }; vle = false }) ∷ [])
-    ∷ trial (drop 20 (echoesOf (runOf finished))) (nothing ∷ nothing ∷ (0 ∷ 0xBB ∷ []) ∷ nothing ∷ [])
     ∷ trial (runOf finished .sram) (replicate 4 0xEE ++ (0xAA ∷ 0xBB ∷ []) ++ replicate 65530 0xEE)
     ∷ trial (numbersOf (runOf silent)) (1 ∷ 1 ∷ 1 ∷ [])
     ∷ trial (streamOf silent) []
