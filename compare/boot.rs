@@ -1,9 +1,9 @@
 //! The boot choice and its MMU rows: the inputs, and the comparison of the answers.
 
-use crate::numbers::{mode_number, table, table_name, MODES, TABLE};
+use crate::c_numbers::{mode_number, table, table_name, MODES, TABLE};
+use crate::differences::{hex, line};
 use crate::random::Random;
-use crate::report::{hex, line};
-use crate::{ours, Among, Tally};
+use crate::{foreign, Among, Tally};
 use reference::boot::{choose, Choice, Mode};
 use reference::mmu::{choice_rows, Row};
 use std::array;
@@ -392,7 +392,7 @@ impl Boot<'_> {
         let before = Answer::before(&mut self.random, 16 + BEYOND, 16 + BEYOND);
 
         let mut ours = before.clone();
-        ours.number = ours::choice(
+        ours.number = foreign::choice(
             input.bootcfg,
             flash,
             &input.shadow,
@@ -462,7 +462,7 @@ impl Boot<'_> {
         let before = Answer::before(&mut self.random, ROWS_BUFFER, 0);
 
         let mut ours = before.clone();
-        ours.number = ours::choice_rows(mode, &mut ours.words[..rows_len]);
+        ours.number = foreign::choice_rows(mode, &mut ours.words[..rows_len]);
 
         let mut reference = before;
         match expected_rows(mode, rows_len) {

@@ -4,26 +4,27 @@
 //! captures, for which the program target/bin/replay, or the one that the environment's
 //! REPLAY names, is run.
 
-mod bench;
 mod boot;
-mod captures;
-mod exchanges;
-mod fixed;
-mod making;
-mod numbers;
-mod ours;
-mod program;
+mod c_numbers;
+mod capture;
+mod differences;
+mod foreign;
+mod generators;
+mod harness;
 mod random;
-mod reader;
-mod records;
-mod report;
+mod replay;
+mod replay_program;
+mod replay_record;
 mod session;
+mod session_exchanges;
+mod vectors;
 
-use program::Program;
 use random::Random;
+use replay_program::Program;
 use std::env;
 use std::fmt;
 use std::process::ExitCode;
+use std::thread;
 
 const SEED: u64 = 0x5A55_AAFE_EDFA_CE01;
 const COUNT: u64 = 40_000;
@@ -47,17 +48,23 @@ fn main() -> ExitCode {
     };
     println!("compare: seed {seed:#x}, program {:?}", program.name);
 
+    let parts = thread::scope(|scope| {
+        let boot = scope.spawn(|| tallied(|tally| boot::run(Random::new(seed), count, tally)));
+        let session =
+            scope.spawn(|| tallied(|tally| session::run(Random::new(!seed), lists, tally)));
+        let random = Random::new(seed.swap_bytes());
+        let replay =
+            scope.spawn(|| tallied(|tally| replay::run(random, captures, &program, tally)));
+        [boot, session, replay].map(|part| part.join().expect("a comparison that did not panic"))
+    });
     let mut tally = Tally::default();
-    let compared = boot::run(Random::new(seed), count, &mut tally)
-        .and_then(|()| session::run(Random::new(!seed), lists, &mut tally))
-        .and_then(|()| {
-            let random = Random::new(seed.swap_bytes());
-            captures::run(random, captures, &program, &mut tally)
-        });
-    if let Err(difference) = compared {
-        let number = tally.inputs + 1;
-        println!("compare: difference at seed {seed:#x}, input number {number}\n{difference}");
-        return ExitCode::FAILURE;
+    for (part, compared) in parts {
+        tally.add(part);
+        if let Err(difference) = compared {
+            let number = tally.inputs + 1;
+            println!("compare: difference at seed {seed:#x}, input number {number}\n{difference}");
+            return ExitCode::FAILURE;
+        }
     }
 
     print!("{tally}");
@@ -70,6 +77,13 @@ fn main() -> ExitCode {
     }
     println!("compare: {} inputs compared, 0 differences", tally.inputs);
     ExitCode::SUCCESS
+}
+
+/// A part of the comparison with a tally of its own, so that the parts can run side by side.
+fn tallied(run: impl FnOnce(&mut Tally) -> Result<(), String>) -> (Tally, Result<(), String>) {
+    let mut tally = Tally::default();
+    let compared = run(&mut tally);
+    (tally, compared)
 }
 
 fn arguments() -> Result<[u64; 4], String> {
@@ -147,6 +161,11 @@ impl Tally {
             .unwrap_or_else(|| panic!("not in the tally: {thing} {name}"));
         value.all += 1;
         value.random += u64::from(random);
+    }
+
+    fn add(&mut self, part: Tally) {
+        self.inputs += part.inputs;
+        self.lines.extend(part.lines);
     }
 
     fn missing(&self) -> Vec<String> {

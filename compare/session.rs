@@ -1,12 +1,12 @@
 //! The serial session: systematic inputs, random lists of items and random sessions.
 
-use crate::bench::{Bench, Lengths, Parts, BASE, RIGHT, ROWS_MAX, SESSION_MAX, SRAM, SRAM_MAX};
-use crate::exchanges;
-use crate::making::{clean, faulty, frame, header, load, Maker, END, PUBLIC};
-use crate::numbers::{
+use crate::c_numbers::{
     ANSWER, COUNT, ENTERED, HELD, NEXT, OWED, PORT, REFUSAL, SESSION, STAGE, START, TABLE, VLE,
 };
+use crate::generators::{clean, faulty, frame, header, load, Maker, END, PUBLIC};
+use crate::harness::{Harness, Lengths, Parts, BASE, RIGHT, ROWS_MAX, SESSION_MAX, SRAM, SRAM_MAX};
 use crate::random::Random;
+use crate::session_exchanges;
 use crate::Tally;
 use reference::session::{Item, Port};
 
@@ -14,12 +14,12 @@ use reference::session::{Item, Port};
 /// sessions, then large loads. An error is the report of the first difference.
 pub fn run(mut random: Random, count: u64, tally: &mut Tally) -> Result<(), String> {
     let mut run = Run {
-        bench: Bench::new(Random::new(random.number()), tally),
+        harness: Harness::new(Random::new(random.number()), tally),
         maker: Maker::new(random),
     };
     run.fresh_sessions()?;
-    for exchange in exchanges::trials() {
-        exchange.run(&mut run.bench)?;
+    for exchange in session_exchanges::trials() {
+        exchange.run(&mut run.harness)?;
     }
     run.frames()?;
     run.bytes()?;
@@ -28,7 +28,7 @@ pub fn run(mut random: Random, count: u64, tally: &mut Tally) -> Result<(), Stri
     run.list_forms()?;
     run.rows()?;
 
-    run.bench.at_random = true;
+    run.harness.at_random = true;
     let mut lists = 0;
     while lists < count {
         lists += run.random_lists()?;
@@ -36,10 +36,10 @@ pub fn run(mut random: Random, count: u64, tally: &mut Tally) -> Result<(), Stri
     for _ in 0..count {
         run.random_session()?;
     }
-    run.bench.at_random = false;
+    run.harness.at_random = false;
 
-    for exchange in exchanges::document_002() {
-        exchange.run(&mut run.bench)?;
+    for exchange in session_exchanges::document_002() {
+        exchange.run(&mut run.harness)?;
     }
     run.large_loads()
 }
@@ -90,32 +90,32 @@ fn samples() -> Vec<[u32; SESSION]> {
 const NO_ENTRIES: [u32; 8] = [0, 1, 5, 6, 0x102, 0x103, 0x104, !0];
 
 struct Run<'a> {
-    bench: Bench<'a>,
+    harness: Harness<'a>,
     maker: Maker,
 }
 
 impl Run<'_> {
     fn call(&mut self, numbers: &[u32], item: &Item, lengths: Lengths) -> Result<(), String> {
-        self.bench.fill();
-        self.bench.set(numbers);
-        self.bench.call(item, lengths).map(|_| ())
+        self.harness.fill();
+        self.harness.set(numbers);
+        self.harness.call(item, lengths).map(|_| ())
     }
 
     /// Every mode, with password and output lengths about the right ones.
     fn fresh_sessions(&mut self) -> Result<(), String> {
         for mode in 0..=255 {
             for password_len in 0..=9 {
-                self.bench.fill();
+                self.harness.fill();
                 let password = self.maker.bytes(password_len);
                 for session_len in [0, 8].into_iter().chain(20..=28) {
-                    self.bench.fresh(mode, &password, session_len)?;
+                    self.harness.fresh(mode, &password, session_len)?;
                 }
             }
         }
         for _ in 0..1_000 {
-            self.bench.fill();
+            self.harness.fill();
             let (mode, selected) = (self.maker.mode(), self.maker.selected());
-            self.bench.fresh(mode, &selected, SESSION)?;
+            self.harness.fresh(mode, &selected, SESSION)?;
         }
         Ok(())
     }
@@ -186,9 +186,9 @@ impl Run<'_> {
                         answer: 0,
                     };
                     let mut parts = Parts::of(&items, &mut self.maker.random);
-                    self.bench.refused_list(&parts, lengths)?;
+                    self.harness.refused_list(&parts, lengths)?;
                     parts.bytes.push(0);
-                    self.bench.refused_list(&parts, lengths)?;
+                    self.harness.refused_list(&parts, lengths)?;
                 }
             }
         }
@@ -272,10 +272,10 @@ impl Run<'_> {
             clean(0xED),
         ];
         for numbers in samples() {
-            self.bench.fill();
-            self.bench.set(&numbers);
-            self.bench.run(&[])?;
-            self.bench.run(&items)?;
+            self.harness.fill();
+            self.harness.set(&numbers);
+            self.harness.run(&[])?;
+            self.harness.run(&items)?;
             let right = Parts::of(&items, &mut self.maker.random);
             let mut refused = Vec::new();
             for at in 0..items.len() {
@@ -320,7 +320,7 @@ impl Run<'_> {
                 refused.push(parts);
             }
             for parts in &refused {
-                self.bench.refused_list(parts, RIGHT)?;
+                self.harness.refused_list(parts, RIGHT)?;
             }
         }
         Ok(())
@@ -347,14 +347,14 @@ impl Run<'_> {
 
     /// Outputs of every length up to ROWS_MAX, and lengths of the session about the right one.
     fn rows_of(&mut self, numbers: &[u32]) -> Result<(), String> {
-        self.bench.fill();
-        self.bench.set(numbers);
+        self.harness.fill();
+        self.harness.set(numbers);
         for rows_len in 0..=ROWS_MAX {
-            self.bench.rows(SESSION, rows_len)?;
+            self.harness.rows(SESSION, rows_len)?;
         }
         for session_len in [0, SESSION - 1, SESSION + 1, SESSION_MAX] {
             for rows_len in [0, TABLE] {
-                self.bench.rows(session_len, rows_len)?;
+                self.harness.rows(session_len, rows_len)?;
             }
         }
         Ok(())
@@ -362,12 +362,12 @@ impl Run<'_> {
 
     /// Lists with resets between them, which SRAM outlasts. Answers how many.
     fn random_lists(&mut self) -> Result<u64, String> {
-        self.bench.fill();
+        self.harness.fill();
         let count = self.maker.random.pick(&[1, 1, 2, 3]);
         for _ in 0..count {
             let (mode, selected) = (self.maker.mode(), self.maker.selected());
             let items = self.maker.list(selected);
-            self.bench.run_fresh(mode, selected, &items)?;
+            self.harness.run_fresh(mode, selected, &items)?;
             if self.maker.random.chance(4) {
                 self.refused(&items)?;
             }
@@ -378,27 +378,27 @@ impl Run<'_> {
     /// A random session, and now and then the same with a number that is no way in. These
     /// numbers are not drawn by the maker, so that what it makes does not hang on them.
     fn random_session(&mut self) -> Result<(), String> {
-        let entered = self.bench.random.pick(&[2, 3, 4]);
+        let entered = self.harness.random.pick(&[2, 3, 4]);
         let mut numbers = self.maker.session(entered);
         self.session(&numbers)?;
-        if self.bench.random.chance(8) {
-            numbers[ENTERED] = self.bench.random.pick(&NO_ENTRIES);
+        if self.harness.random.chance(8) {
+            numbers[ENTERED] = self.harness.random.pick(&NO_ENTRIES);
             self.both_ports(&numbers)?;
-            let parts = Parts::of(&[clean(0xA5)], &mut self.bench.random);
-            self.bench.refused_list(&parts, RIGHT)?;
+            let parts = Parts::of(&[clean(0xA5)], &mut self.harness.random);
+            self.harness.refused_list(&parts, RIGHT)?;
         }
         Ok(())
     }
 
     /// A session of these numbers. If it is sound, items are run on it.
     fn session(&mut self, numbers: &[u32]) -> Result<(), String> {
-        self.bench.fill();
-        self.bench.set(numbers);
-        self.bench.rows_at_hand()?;
-        let Some(head) = self.bench.head() else {
+        self.harness.fill();
+        self.harness.set(numbers);
+        self.harness.rows_at_hand()?;
+        let Some(head) = self.harness.head() else {
             let items = [self.maker.item(), self.maker.item()];
             for item in &items {
-                self.bench.call(item, RIGHT)?;
+                self.harness.call(item, RIGHT)?;
             }
             return self.refused(&items);
         };
@@ -406,7 +406,7 @@ impl Run<'_> {
         if self.maker.random.chance(2) {
             self.refused(&items)?;
         }
-        self.bench.run(&items)
+        self.harness.run(&items)
     }
 
     /// A call and a list that are refused, in the session at hand.
@@ -414,7 +414,7 @@ impl Run<'_> {
         let lengths = self.maker.lengths();
         if lengths != RIGHT {
             let item = self.maker.item();
-            self.bench.call(&item, lengths)?;
+            self.harness.call(&item, lengths)?;
         }
         let mut parts = Parts::of(items, &mut self.maker.random);
         for _ in 0..self.maker.random.pick(&[0, 1, 1, 1, 2]) {
@@ -424,7 +424,7 @@ impl Run<'_> {
             0 => self.maker.lengths(),
             _ => RIGHT,
         };
-        self.bench.refused_list(&parts, lengths).map(|_| ())
+        self.harness.refused_list(&parts, lengths).map(|_| ())
     }
 
     /// Loads of all of SRAM, to its end, and over it by one, by both ports.
@@ -455,8 +455,8 @@ impl Run<'_> {
         let bytes = self.maker.random.pick(&[5, 7, 8]);
         let mut items = load(port, &PUBLIC, &header, &data, bytes);
         items.extend([frame(0x013, &[0xA5]), clean(0xA5)]);
-        self.bench.fill();
+        self.harness.fill();
         let mode = self.maker.mode();
-        self.bench.run_fresh(mode, PUBLIC, &items).map(|_| ())
+        self.harness.run_fresh(mode, PUBLIC, &items).map(|_| ())
     }
 }

@@ -2,14 +2,14 @@
 //! exchanges", "Slips we have seen" and the capture's items; document 002, Tables 7
 //! to 14.
 
-use crate::bench::Bench;
-use crate::making::{clean, faulty, frame, header, PUBLIC};
-use crate::numbers::{
+use crate::c_numbers::{
     answer_name, session_name, Row, ANSWER, ECHO, ECHO_IDENTIFIER, ECHO_LENGTH, JUMP, JUMP_VLE,
     SESSION,
 };
+use crate::differences::line;
+use crate::generators::{clean, faulty, frame, header, PUBLIC};
+use crate::harness::Harness;
 use crate::random::Random;
-use crate::report::line;
 use reference::session::Item;
 
 /// An item and the answer that is printed.
@@ -99,10 +99,10 @@ impl Exchange {
     }
 
     /// Runs the exchange, and compares with what is printed.
-    pub fn run(&self, bench: &mut Bench) -> Result<(), String> {
+    pub fn run(&self, harness: &mut Harness) -> Result<(), String> {
         let (name, items) = (self.name, self.items());
-        bench.fill();
-        let rows = bench
+        harness.fill();
+        let rows = harness
             .run_fresh(SERIAL_DIRECTLY, self.selected, &items)
             .map_err(|difference| format!("{name}\n{difference}"))?;
         for (index, (row, (_, printed))) in rows.iter().zip(&self.turns).enumerate() {
@@ -114,11 +114,11 @@ impl Exchange {
                 ));
             }
         }
-        if bench.numbers() != self.after {
-            let lines = numbers(&bench.numbers(), &self.after, session_name);
+        if harness.numbers() != self.after {
+            let lines = numbers(&harness.numbers(), &self.after, session_name);
             return Err(format!("{name}, the session after\n{items:X?}\n{lines}"));
         }
-        if !bench.sram().starts_with(&self.loaded) {
+        if !harness.sram().starts_with(&self.loaded) {
             return Err(format!("{name}: SRAM does not have the program\n"));
         }
         Ok(())

@@ -1,10 +1,10 @@
 //! Random inputs of a serial session, shaped like the protocol and bent: passwords,
 //! headers, items, lists of items, and the numbers of sessions.
 
-use crate::bench::{Lengths, Parts, ANSWER_MAX, BASE, RIGHT, SESSION_MAX, SRAM, SRAM_MAX};
-use crate::numbers::{
+use crate::c_numbers::{
     Head, ANSWER, COUNT, ENTERED, HELD, NEXT, OWED, PORT, REFUSAL, SESSION, STAGE, START, VLE,
 };
+use crate::harness::{Lengths, Parts, ANSWER_MAX, BASE, RIGHT, SESSION_MAX, SRAM, SRAM_MAX};
 use crate::random::Random;
 use reference::boot::Entered;
 use reference::session::{Item, Port, Session, Stage};

@@ -1,12 +1,12 @@
 //! Fixed captures: those that the papers give, and others about each rule.
 
-use crate::bench::{BASE, SRAM};
-use crate::captures::Case;
-use crate::exchanges::{self, Exchange};
-use crate::making::{clean, faulty, frame, header, load, PUBLIC};
-use crate::numbers::{ECHO, ECHO_LENGTH, REFUSAL, STAGE, START};
-use crate::program::Feeding;
-use crate::records::{can, capture_of, head, record, reset, WINDOW};
+use crate::c_numbers::{ECHO, ECHO_LENGTH, REFUSAL, STAGE, START};
+use crate::generators::{clean, faulty, frame, header, load, PUBLIC};
+use crate::harness::{BASE, SRAM};
+use crate::replay::Case;
+use crate::replay_program::Feeding;
+use crate::replay_record::{can, capture_of, head, record, reset, WINDOW};
+use crate::session_exchanges::{self, Exchange};
 use reference::session::{Item, Port};
 
 /// 01, "The truck's capture file": the capture.
@@ -18,12 +18,12 @@ pub fn cases() -> Vec<Case> {
     printed(&mut cases, "empty", &[], "end waiting\n");
     let text = "1 0 FE\n2 1 -\nend password\n";
     printed(&mut cases, "example", &EXAMPLE, text);
-    printed_exchanges(&mut cases, &exchanges::trials());
+    printed_exchanges(&mut cases, &session_exchanges::trials());
     heads(&mut cases);
     resets(&mut cases);
     cuts(&mut cases);
     windows(&mut cases);
-    printed_exchanges(&mut cases, &exchanges::document_002());
+    printed_exchanges(&mut cases, &session_exchanges::document_002());
     loads(&mut cases);
     cases
 }

@@ -1,8 +1,8 @@
 //! Captures: the records of items and of resets, and random captures, shaped like the
 //! protocol and then damaged.
 
-use crate::bench::{kind_and_bytes, refused_for_form};
-use crate::making::{Maker, PUBLIC};
+use crate::generators::{Maker, PUBLIC};
+use crate::harness::{kind_and_bytes, refused_for_form};
 use reference::session::Item;
 
 /// How much of a capture the program under test holds at a time.

@@ -1,13 +1,13 @@
 //! Captures: what the program prints for each, against the reference's text and what the
 //! papers print, and each read by the library's reader.
 
-use crate::fixed;
-use crate::making::Maker;
-use crate::program::{Feeding, Program};
+use crate::capture::{starts, Reader};
+use crate::differences::hex;
+use crate::generators::Maker;
 use crate::random::Random;
-use crate::reader::{starts, Reader};
-use crate::records::{random_capture, WINDOW};
-use crate::report::hex;
+use crate::replay_program::{Feeding, Program};
+use crate::replay_record::{random_capture, WINDOW};
+use crate::vectors;
 use crate::{Among, Tally};
 use reference::replay::replay;
 use std::thread;
@@ -63,7 +63,7 @@ pub fn run(
         tally,
     };
     run.reader.forms(run.tally)?;
-    run.compare(&fixed::cases())?;
+    run.compare(&vectors::cases())?;
 
     run.reader.at_random = true;
     let mut maker = Maker::new(random);

@@ -2,13 +2,13 @@
 //! side. After every call everything that it could have written is compared, and the MMU
 //! rows of the session that it left.
 
-use crate::numbers::{
+use crate::c_numbers::{
     answer_name, entered_of, only, row, session_name, table, table_name, Head, Row, ANSWER,
     ENTERED, JUMP, JUMP_VLE, PORT, SESSION, STAGE, TABLE, VLE,
 };
+use crate::differences::{hex, line};
 use crate::random::Random;
-use crate::report::{hex, line};
-use crate::{ours, Among, Tally};
+use crate::{foreign, Among, Tally};
 use reference::mmu::{self, session_rows};
 use reference::session::{load, picked, plain, stream, Answer, Item, Port};
 use std::array;
@@ -187,7 +187,7 @@ impl PartialEq for Side<'_> {
     }
 }
 
-pub struct Bench<'a> {
+pub struct Harness<'a> {
     pub random: Random,
     tally: &'a mut Tally,
     /// Whether the inputs are now random ones, for the tally.
@@ -204,7 +204,7 @@ pub struct Bench<'a> {
     trail: Vec<Step>,
 }
 
-impl<'a> Bench<'a> {
+impl<'a> Harness<'a> {
     pub fn new(random: Random, tally: &'a mut Tally) -> Self {
         let mut rows_in = ROWS_IN.concat();
         rows_in.dedup();
@@ -225,7 +225,7 @@ impl<'a> Bench<'a> {
         ] {
             tally.expect(thing, among, values);
         }
-        Bench {
+        Harness {
             random,
             tally,
             at_random: false,
@@ -279,7 +279,7 @@ impl<'a> Bench<'a> {
     pub fn fresh(&mut self, mode: u8, password: &[u8], session_len: usize) -> Result<(), String> {
         self.ours.session = array::from_fn(|_| self.random.number() as u32);
         self.expected.session = self.ours.session;
-        let number = ours::session(mode, password, &mut self.ours.session[..session_len]);
+        let number = foreign::session(mode, password, &mut self.ours.session[..session_len]);
         let due = match <[u8; 8]>::try_from(password) {
             Ok(selected) if session_len == SESSION => match entered_of(mode.into()) {
                 Some(entered) => {
@@ -541,7 +541,7 @@ impl<'a> Bench<'a> {
     ) -> Result<(), String> {
         let mut rows: [u32; ROWS_MAX + BEYOND] = array::from_fn(|_| self.random.number() as u32);
         let (mut expected, mut after) = (rows, session);
-        let number = ours::session_rows(&mut after[..session_len], &mut rows[..rows_len]);
+        let number = foreign::session_rows(&mut after[..session_len], &mut rows[..rows_len]);
         let due = match due_rows(&session[..session_len]) {
             Err(number) => number,
             Ok(_) if rows_len != TABLE => 9,
@@ -700,13 +700,15 @@ fn hand_in(kept: &mut Kept, item: &Item, mark: u8, lengths: Lengths, answer: &mu
     let sram = &mut kept.sram[..lengths.sram];
     let answer = &mut answer[..lengths.answer];
     match item {
-        Item::Frame { identifier, data } => ours::frame(session, sram, *identifier, data, answer),
-        Item::Byte { value, .. } => ours::byte(session, sram, *value, mark, answer),
+        Item::Frame { identifier, data } => {
+            foreign::frame(session, sram, *identifier, data, answer)
+        }
+        Item::Byte { value, .. } => foreign::byte(session, sram, *value, mark, answer),
     }
 }
 
 fn hand_in_list(kept: &mut Kept, parts: &Parts, lengths: Lengths, answers: &mut [u32]) -> u8 {
-    ours::list(
+    foreign::list(
         &mut kept.session[..lengths.session],
         &mut kept.sram[..lengths.sram],
         &parts.kinds,

@@ -1,9 +1,9 @@
 //! The reader of captures: boot_assist_read against the reference's reader.
 
+use crate::differences::{hex, line};
 use crate::random::Random;
-use crate::records::{can, head};
-use crate::report::{hex, line};
-use crate::{ours, Among, Tally};
+use crate::replay_record::{can, head};
+use crate::{foreign, Among, Tally};
 use reference::capture::{read, Read};
 use std::array;
 
@@ -95,7 +95,7 @@ impl Reader {
         let before: [usize; FIELDS_MAX + BEYOND] =
             array::from_fn(|_| self.random.number() as usize);
         let (mut fields, mut expected) = (before, before);
-        let number = ours::read(capture, at, &mut fields[..length]);
+        let number = foreign::read(capture, at, &mut fields[..length]);
         let due = due(capture, at, &mut expected[..length]);
         if (number, fields) != (due, expected) {
             let mut text = format!(
