@@ -1,5 +1,5 @@
 /*
- * The boot assist's C interface. Link target/staticlib/libexports.a, which `rt staticlib exports` writes for
+ * The boot assist's C interface. Link target/staticlib/libboot_assist.a, which `rt staticlib boot_assist` writes for
  * x86-64 Linux.
  *
  * Every call answers for every value of its arguments: it returns a number of the table below, and a call

@@ -5,14 +5,14 @@ use mathlib.Core.Path.{_≡_, refl, ap, sym, subst, _∙_}
 use mathlib.Core.List.{List, [], _∷_}
 use mathlib.Core.Bool.{Bool, true, false, cond}
 use lib.ListN.{length, getD}
-use Rattle.controls.specs.declared.Asked.{Asked}
+use Rattle.boot_table.specs.declared.Asked.{Asked}
 use Rattle.boot.specs.declared.Choice.{Choice}
-use Rattle.configuration.specs.declared.Entered.{Entered}
-use Rattle.places.specs.declared.Search.{Search}
+use Rattle.session_configuration.specs.declared.Entered.{Entered}
+use Rattle.boot_rchw.specs.declared.Search.{Search}
 use Rattle.boot.specs.declared.Mode.{Mode}
-use Rattle.controls.specs.declared.Row.{Row}
-use Rattle.places.specs.Places.{flashPlaces, externalPlaces, goodPlace, searched}
-use Rattle.controls.specs.Table.{askedBy, rowFor}
+use Rattle.boot_table.specs.declared.Row.{Row}
+use Rattle.boot_rchw.specs.Places.{flashPlaces, externalPlaces, goodPlace, searched}
+use Rattle.boot_table.specs.Table.{askedBy, rowFor}
 use Rattle.boot.specs.Choosing.{allowed, refusal, settled, chosen, bootChoice, choiceNumber, examinedOf}
 use Rattle.boot.specs.Claim.{ChoiceClaim, Ranked}
 

@@ -7,9 +7,9 @@ use lib.ListN.{getD}
 use Rattle.boot.specs.declared.Answer.{Answer}
 use Rattle.boot.specs.declared.Boot.{Boot}
 use Rattle.boot.specs.declared.Choice.{Choice}
-use Rattle.configuration.specs.declared.Entered.{Entered}
+use Rattle.session_configuration.specs.declared.Entered.{Entered}
 use Rattle.boot.specs.declared.Mode.{Mode}
-use Rattle.places.specs.Places.{flashPlaces, goodPlace}
+use Rattle.boot_rchw.specs.Places.{flashPlaces, goodPlace}
 use Rattle.boot.specs.Choosing.{allowed, bootChoice, choiceNumber, examinedOf}
 
 -- none of the first n places of the flash is good

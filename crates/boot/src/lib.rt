@@ -3,10 +3,10 @@
 ghost use mathlib.Core.Path.{_≡_};
 ghost use Rattle.boot.specs.Choosing.{allowed, bootFrom, serialBoot, settled, chosen};
 ghost use Rattle.boot.specs.Claim.{ChoiceClaim};
-use configuration::Entered;
-use controls::Asked;
-use controls::Row;
-use places::Search;
+use boot_rchw::Search;
+use boot_table::Asked;
+use boot_table::Row;
+use session_configuration::Entered;
 
 // How the head boots.
 pub enum Mode {
@@ -104,13 +104,13 @@ fn settle(mode: Mode, entered: Entered, memory: &[u8], search: Search, row: Row)
 fn chosen_for(asked: Asked, flash: &[u8], shadow: &[u8], external: &[u8]) -> Choice
     ensures { λ r. ⌜ r ≡ chosen asked (now (flash .entry)) (now (shadow .entry)) (now (external .entry)) ⌝ }
 {
-    let row = controls::row_for(asked, shadow);
+    let row = boot_table::row_for(asked, shadow);
     match asked {
         Asked::Internal => settle(
             Mode::Internal,
             Entered::FromInternal,
             flash,
-            places::first_good(flash),
+            boot_rchw::first_good(flash),
             row,
         ),
         Asked::Serial => serial_boot(Entered::Directly, 0, row),
@@ -118,7 +118,7 @@ fn chosen_for(asked: Asked, flash: &[u8], shadow: &[u8], external: &[u8]) -> Cho
             Mode::External,
             Entered::FromExternal,
             external,
-            places::examine_external(external),
+            boot_rchw::examine_external(external),
             row,
         ),
     }
@@ -129,7 +129,7 @@ pub fn choose(bootcfg: u8, flash: &[u8], shadow: &[u8], external: &[u8]) -> Choi
     ensures { λ r. ⌜ ChoiceClaim bootcfg (now (flash .entry)) (now (shadow .entry)) (now (external .entry)) r ⌝ }
 {
     if is_allowed(bootcfg, flash, shadow, external) {
-        return chosen_for(controls::asked_by(bootcfg), flash, shadow, external);
+        return chosen_for(boot_table::asked_by(bootcfg), flash, shadow, external);
     }
     Choice {
         answer: Answer::Refused,

@@ -4,9 +4,9 @@ use mathlib.Core.List.{List}
 use mathlib.Core.Bool.{Bool, cond, not, _&&_}
 use lib.Dec.{eqb}
 use Rattle.octets.specs.Read.{byteAt, wordAt}
-use Rattle.configuration.specs.declared.Configuration.{Configuration}
+use Rattle.session_configuration.specs.declared.Configuration.{Configuration}
 use Rattle.sram.specs.Region.{inRange}
-use Rattle.stages.specs.declared.Refusal.{Refusal}
+use Rattle.session_state.specs.declared.Refusal.{Refusal}
 use Rattle.header.specs.declared.Header.{Header}
 use Rattle.header.specs.declared.Validated.{Validated}
 

@@ -1,9 +1,9 @@
 // The header of a load (01, "A serial session"; 003).
 ghost use mathlib.Core.Path.{_≡_};
 ghost use Rattle.header.specs.Reading.{headerRead, validated};
-use configuration::Configuration;
+use session_configuration::Configuration;
+use session_state::Refusal;
 use sram::Aligned;
-use stages::Refusal;
 
 // Where a load starts, whether it is VLE code, and how many bytes it announces.
 pub struct Header {
@@ -12,7 +12,7 @@ pub struct Header {
     pub length: u32,
 }
 
-// A header that is refused, with 3 or 4 (`answers: Answers.refusalNumber` gives the number), or one that fits.
+// A header that is refused, with 3 or 4 (`session_answers: Answers.refusalNumber` gives the number), or one that fits.
 pub enum Validated {
     Refused(Refusal),
     Fits(Header),

@@ -4,10 +4,10 @@ use mathlib.Core.List.{List, [], _∷_}
 use mathlib.Core.Bool.{Bool, true, false, cond}
 use lib.ListN.{replicate}
 use Rattle.boot.specs.declared.Mode.{Mode}
-use Rattle.configuration.specs.declared.Entered.{Entered}
-use Rattle.stages.specs.declared.Session.{Session}
-use Rattle.stages.specs.declared.Stage.{Stage}
-use Rattle.stages.specs.Sound.{sound}
+use Rattle.session_configuration.specs.declared.Entered.{Entered}
+use Rattle.session_state.specs.declared.Session.{Session}
+use Rattle.session_state.specs.declared.Stage.{Stage}
+use Rattle.session_state.specs.Sound.{sound}
 use Rattle.mmu.specs.declared.Mapping.{Mapping}
 use Rattle.mmu.specs.declared.Row.{Row}
 

@@ -3,9 +3,9 @@
 ghost use mathlib.Core.Path.{_≡_};
 ghost use Rattle.mmu.specs.Rows.{tableRow, internalRows, hasExternalRows, refused, mappingFor, choiceRows, acceptedVle, sessionRows};
 use boot::Mode;
-use configuration::Entered;
-use stages::Session;
-use stages::Stage;
+use session_configuration::Entered;
+use session_state::Session;
+use session_state::Stage;
 
 // One MMU entry: base addresses, size in bytes, and attributes.
 pub struct Row {
@@ -130,7 +130,7 @@ pub fn session_rows(session: Session) -> Mapping
     let configuration = session.configuration;
     let entered = configuration.entered;
     let stage = session.stage;
-    if stages::is_sound(session) {
+    if session_state::is_sound(session) {
         return rows_for(Mode::Serial(entered), accepted_vle(stage));
     }
     refuse(8)

@@ -1,11 +1,11 @@
-// `replay`: a capture on standard input, its text on standard output (01, "The truck's capture file"). The work is in `windows`;
+// `replay`: a capture on standard input, its text on standard output (01, "The truck's capture file"). The work is in `replay_window`;
 // this program only reads, calls and writes.
 ghost use Prim.Native.Nat.{_≤_};
 ghost use lib.ListN.{length};
-use beginnings::Progress;
 use libc::STDERR_FILENO;
 use libc::STDIN_FILENO;
 use libc::STDOUT_FILENO;
+use replay_record::Progress;
 
 // What a read brought: how many bytes, and whether the input has ended.
 struct Input {
@@ -109,7 +109,7 @@ fn play_on(window: &mut [u8], sram: &mut [u8], out: &mut [u8], run: Run) -> Run 
     let filled = octets::least(before.unread, window.len());
     let input = read_once(&mut window[filled..], run.last);
     let have = filled + input.count;
-    let progress = windows::play_window(&mut window[0..have], input.last, before, sram, out);
+    let progress = replay_window::play_window(&mut window[0..have], input.last, before, sram, out);
     let used = octets::least(progress.used, out.len());
     let failed = write_out(&out[0..used]);
     Run {
@@ -122,7 +122,7 @@ fn play_on(window: &mut [u8], sram: &mut [u8], out: &mut [u8], run: Run) -> Run 
 // Plays window after window until the text has ended.
 fn play_all(window: &mut [u8], sram: &mut [u8], out: &mut [u8]) {
     let mut run = Run {
-        progress: beginnings::begin(),
+        progress: replay_record::begin(),
         last: false,
         ended: false,
     };
@@ -145,7 +145,7 @@ fn main() {
         );
     }
     let mut window = [0u8; 8192];
-    let mut sram = beginnings::zeroed_sram();
+    let mut sram = replay_record::zeroed_sram();
     let mut out = [0u8; 65536];
     play_all(&mut window[..], &mut sram[..], &mut out[..]);
 }

@@ -9,7 +9,7 @@ use borrow.Author.Tests.{leb-true, le-leb, eq-eqb, eqb-true}
 use lib.Dec.{leb}
 use lib.ListN.{length, take, drop, length-append, length-drop, take-append-drop}
 use lib.Seq.{length-take-le, take-at, drop-at, drop-drop}
-use Rattle.configuration.specs.declared.Configuration.{Configuration}
+use Rattle.session_configuration.specs.declared.Configuration.{Configuration}
 use Rattle.sram.specs.Region.{size, base, rightSize, inRange, aligned, stored, storedInRange, LoadedAt}
 
 -- storing nothing changes nothing

@@ -5,7 +5,7 @@ use mathlib.Core.List.{List, _++_}
 use mathlib.Core.Bool.{Bool, cond, _&&_}
 use lib.ListN.{length, take, drop}
 use lib.Dec.{leb, eqb}
-use Rattle.configuration.specs.declared.Configuration.{Configuration}
+use Rattle.session_configuration.specs.declared.Configuration.{Configuration}
 
 -- "SRAM is 65,536 bytes at 0x4000_0000.", whatever the session's configuration
 unfoldable pub size : Configuration → ℕ

@@ -2,7 +2,7 @@
 ghost use mathlib.Core.Path.{_≡_};
 ghost use Prim.Native.Nat.{_/_, _*_};
 ghost use Rattle.sram.specs.Region.{size, rightSize, inRange, aligned, storedInRange};
-use configuration::Configuration;
+use session_configuration::Configuration;
 
 // An address that stands for a start, whose two lowest bits are dropped; `is_aligned` tests one that was handed in.
 pub struct Aligned(pub u32);
@@ -55,7 +55,7 @@ pub fn store(configuration: Configuration, sram: &mut [u8], address: u32, bytes:
         if BASE <= address {
             let at = (address - BASE) as usize;
             if at + bytes.len() <= size {
-                filling::fill(&mut sram[at..], bytes);
+                buffers::fill(&mut sram[at..], bytes);
             }
         }
     }

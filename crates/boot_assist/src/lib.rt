@@ -1,0 +1,112 @@
+// The C interface (include/boot_assist.h): the names of the calls.
+ghost use mathlib.Core.Path.{_≡_};
+ghost use mathlib.Core.List.{[], _∷_};
+ghost use Rattle.session_items.specs.declared.Source.{Source};
+ghost use Rattle.session_items.specs.Items.{Item};
+ghost use Rattle.c_choice.specs.Calls.{asChoiceReply, choiceAnswer, asFreshReply, sessionReply};
+ghost use Rattle.c_rows.specs.Calls.{asRowsReply, choiceRowsReply, sessionRowsReply};
+ghost use Rattle.capture.specs.Located.{asLocated, locatedAt};
+ghost use Rattle.c_items.specs.Calls.{asReply, itemReply, listReply};
+
+// The boot choice.
+#[no_mangle]
+pub extern "C" fn boot_assist_choice(
+    bootcfg: u8,
+    flash: &[u8],
+    shadow: &[u8],
+    external: &[u8],
+    fields: &mut [u32],
+    password: &mut [u8],
+) -> u8
+    ensures { λ r. ⌜
+        asChoiceReply r (now (fields .exit)) (now (password .exit))
+        ≡ choiceAnswer bootcfg (now (flash .entry)) (now (shadow .entry)) (now (external .entry)) (now (fields .entry)) (now (password .entry))
+        ⌝ }
+{
+    c_choice::choose(bootcfg, flash, shadow, external, fields, password)
+}
+
+// The MMU rows of a choice.
+#[no_mangle]
+pub extern "C" fn boot_assist_choice_rows(mode: u8, rows: &mut [u32]) -> u8
+    ensures { λ r. ⌜ asRowsReply r (now (rows .exit)) ≡ choiceRowsReply mode (now (rows .entry)) ⌝ }
+{
+    c_rows::choice_rows(mode, rows)
+}
+
+// The MMU rows of a session.
+#[no_mangle]
+pub extern "C" fn boot_assist_session_rows(session: &[u32], rows: &mut [u32]) -> u8
+    ensures { λ r. ⌜ asRowsReply r (now (rows .exit)) ≡ sessionRowsReply (now (session .entry)) (now (rows .entry)) ⌝ }
+{
+    c_rows::session_rows(session, rows)
+}
+
+// A fresh session, from the mode and the password of a serial choice.
+#[no_mangle]
+pub extern "C" fn boot_assist_session(mode: u8, password: &[u8], session: &mut [u32]) -> u8
+    ensures { λ r. ⌜ asFreshReply r (now (session .exit)) ≡ sessionReply mode (now (password .entry)) (now (session .entry)) ⌝ }
+{
+    c_choice::fresh(mode, password, session)
+}
+
+// One CAN frame.
+#[no_mangle]
+pub extern "C" fn boot_assist_frame(
+    session: &mut [u32],
+    sram: &mut [u8],
+    identifier: u32,
+    data: &[u8],
+    answer: &mut [u32],
+) -> u8
+    ensures { λ r. ⌜
+        asReply r (now (session .exit)) (now (sram .exit)) (now (answer .exit))
+        ≡ itemReply (now (session .entry)) (now (sram .entry)) (Item.Of (Source.Can identifier) (now («data» .entry))) (now (answer .entry))
+        ⌝ }
+{
+    c_items::frame(session, sram, identifier, data, answer)
+}
+
+// One serial byte, which is faulty where the mark is not 0.
+#[no_mangle]
+pub extern "C" fn boot_assist_byte(
+    session: &mut [u32],
+    sram: &mut [u8],
+    value: u8,
+    mark: u8,
+    answer: &mut [u32],
+) -> u8
+    ensures { λ r. ⌜
+        asReply r (now (session .exit)) (now (sram .exit)) (now (answer .exit))
+        ≡ itemReply (now (session .entry)) (now (sram .entry)) (Item.Of (Source.Serial mark) (value ∷ [])) (now (answer .entry))
+        ⌝ }
+{
+    c_items::byte(session, sram, value, mark, answer)
+}
+
+// A list of items.
+#[no_mangle]
+pub extern "C" fn boot_assist_list(
+    session: &mut [u32],
+    sram: &mut [u8],
+    kinds: &[u8],
+    identifiers: &[u32],
+    counts: &[u32],
+    bytes: &[u8],
+    answers: &mut [u32],
+) -> u8
+    ensures { λ r. ⌜
+        asReply r (now (session .exit)) (now (sram .exit)) (now (answers .exit))
+        ≡ listReply (now (session .entry)) (now (sram .entry)) (now (kinds .entry)) (now (identifiers .entry)) (now (counts .entry)) (now (bytes .entry)) (now (answers .entry))
+        ⌝ }
+{
+    c_items::list(session, sram, kinds, identifiers, counts, bytes, answers)
+}
+
+// The record at a place of a capture.
+#[no_mangle]
+pub extern "C" fn boot_assist_read(capture: &[u8], at: usize, fields: &mut [usize]) -> u8
+    ensures { λ r. ⌜ asLocated r (now (fields .exit)) ≡ locatedAt (now (capture .entry)) at (now (fields .entry)) ⌝ }
+{
+    capture::locate(capture, at, fields)
+}

@@ -1,0 +1,42 @@
+-- The part of a list from a place on, lent, filled and given back.
+use Prim.Native.Nat.{ℕ, _+_, _-_, _≤_}
+use native.Mathlib.Omega.{arith}
+use mathlib.Core.Path.{_≡_}
+use mathlib.Core.List.{List, _++_, append-nil, append-assoc}
+use borrow.Author.Tests.{le-leb}
+use borrow.Rule.Slice.PartMut.{midOf, putMid}
+use lib.ListN.{length, take, drop, length-drop, drop-of-length-le}
+use lib.Seq.{take-all, drop-drop}
+use Rattle.buffers.specs.Write.{filled}
+
+-- what is lent, and the list with a part in its place
+abbrev pub lent : List ℕ → ℕ → List ℕ
+lent list at = midOf at (length list - at) list
+
+abbrev pub back : List ℕ → ℕ → List ℕ → List ℕ
+back list at part = putMid at (length list - at) list part
+
+pub put-back : (list bytes : List ℕ) (at : ℕ) → at + length bytes ≤ length list
+    → back list at (filled bytes (lent list at)) ≡ take at list ++ bytes ++ drop (at + length bytes) list
+unfolding filled
+put-back list bytes at room =
+    let rest = drop at list in
+    let many : length rest ≡ length list - at = length-drop at list in
+    rw (
+      take-all (length list - at) rest (omega arith),
+      drop-of-length-le rest {i = length list - at} (omega arith),
+      le-leb (length bytes) (length rest) (omega arith),
+      drop-drop (length bytes) at list,
+      append-nil,
+      append-assoc,
+    )
+
+-- a list of the same length is filled whole
+pub fill-whole : (bytes list : List ℕ) → length list ≡ length bytes → filled bytes list ≡ bytes
+unfolding filled
+fill-whole bytes list same =
+    rw (
+      le-leb (length bytes) (length list) (omega arith),
+      drop-of-length-le list {i = length bytes} (omega arith),
+      append-nil,
+    )

@@ -1,0 +1,56 @@
+-- Sessions as lists of numbers, in the order of include/boot_assist.h.
+use Prim.Native.Nat.{ℕ}
+use mathlib.Core.List.{List, [], _∷_, _++_}
+use Rattle.octets.specs.Read.{firstEight}
+use Rattle.session_configuration.specs.declared.Configuration.{Configuration}
+use Rattle.session_state.specs.declared.Port.{Port}
+use Rattle.session_state.specs.declared.Session.{Session}
+use Rattle.session_state.specs.declared.Stage.{Stage}
+use Rattle.session_answers.specs.Answers.{refusalNumber}
+use Rattle.c_answer.specs.Writing.{bit, enteredNumber}
+
+abbrev pub stageNumber : Stage → ℕ
+stageNumber Stage.Waiting = 0
+stageNumber Stage.Password = 1
+stageNumber (Stage.Header port) = 2
+stageNumber (Stage.Data port load) = 3
+stageNumber (Stage.Stopped refusal) = 4
+stageNumber (Stage.Jumped jump) = 5
+
+abbrev pub portNumber : Port → ℕ
+portNumber Port.Can = 0
+portNumber Port.Serial = 1
+
+-- the port of a stage: "the password stage is serial's alone"
+abbrev pub portIn : Stage → ℕ
+portIn Stage.Waiting = 0
+portIn Stage.Password = portNumber Port.Serial
+portIn (Stage.Header port) = portNumber port
+portIn (Stage.Data port load) = portNumber port
+portIn (Stage.Stopped refusal) = 0
+portIn (Stage.Jumped jump) = 0
+
+-- start, VLE, next address and bytes owed of a load, and the number that stopped a session
+abbrev pub loadNumbers : Stage → List ℕ
+loadNumbers Stage.Waiting = 0 ∷ 0 ∷ 0 ∷ 0 ∷ 0 ∷ []
+loadNumbers Stage.Password = 0 ∷ 0 ∷ 0 ∷ 0 ∷ 0 ∷ []
+loadNumbers (Stage.Header port) = 0 ∷ 0 ∷ 0 ∷ 0 ∷ 0 ∷ []
+loadNumbers (Stage.Data port load) = load .start .0 ∷ bit (load .vle) ∷ load .next ∷ load .owed ∷ 0 ∷ []
+loadNumbers (Stage.Stopped refusal) = 0 ∷ 0 ∷ 0 ∷ 0 ∷ refusalNumber refusal ∷ []
+loadNumbers (Stage.Jumped jump) = jump .start .0 ∷ bit (jump .vle) ∷ 0 ∷ 0 ∷ 0 ∷ []
+
+-- what else a configuration has beside its password: how serial boot was entered
+abbrev pub configurationNumbers : Configuration → List ℕ
+configurationNumbers configuration = enteredNumber (configuration .entered) ∷ []
+
+-- the numbers of a session
+abbrev pub sessionWidth : ℕ
+sessionWidth = 25
+
+abbrev pub sessionNumbers : Session → List ℕ
+sessionNumbers session =
+    firstEight (session .configuration .password)
+    ++ (stageNumber (session .stage) ∷ portIn (session .stage) ∷ session .count ∷ [])
+    ++ firstEight (session .held)
+    ++ loadNumbers (session .stage)
+    ++ configurationNumbers (session .configuration)

@@ -1,0 +1,224 @@
+-- The numbers that the rules give, row by row.
+use Prim.Native.Nat.{ℕ, _-_}
+use mathlib.Core.Path.{_≡_, refl, sym, _∙_}
+use mathlib.Core.List.{List}
+use mathlib.Core.Bool.{Bool, true, false, cond, _&&_, and-eq-true-iff, true≢false, false≢true}
+use borrow.Author.Tests.{eqb-true}
+use lib.Dec.{leb, eqb}
+use lib.ListN.{length}
+use Rattle.octets.proofs.Cases.{by-test}
+use Rattle.header.specs.declared.Validated.{Validated}
+use Rattle.header.specs.Reading.{headerRead, announcesNone, within, validated}
+use Rattle.password.specs.Passing.{passes}
+use Rattle.sram.specs.Region.{rightSize}
+use Rattle.session_state.specs.declared.Load.{Load}
+use Rattle.session_state.specs.declared.Port.{Port}
+use Rattle.session_state.specs.declared.Refusal.{Refusal}
+use Rattle.session_state.specs.declared.Session.{Session}
+use Rattle.session_state.specs.declared.Stage.{Stage}
+use Rattle.session_state.specs.Sound.{sound}
+use Rattle.session_items.specs.declared.Reaction.{Reaction}
+use Rattle.session_items.specs.declared.Role.{Role}
+use Rattle.session_items.specs.declared.Source.{Source}
+use Rattle.session_items.specs.Items.{Item, wellFormed, portOf, bytesOf}
+use Rattle.session_items.specs.Reacting.{eightUnder, dataFitting, cleanByte, countsAs, reaction}
+use Rattle.session_items.proofs.Laws.{by-hearing}
+use Rattle.session_answers.specs.declared.Outcome.{Outcome}
+use Rattle.session_answers.specs.Answers.{outcomeNumber, precheck, underPort, echoUnder, echoIdentifier, unchanged}
+use Rattle.session.specs.declared.Transition.{Transition}
+use Rattle.session.specs.Rules.{received, enters, stops, holds, checked, begun, loaded, jumpOf, advanced, passwordReceived, headerReceived, transition, sramAfter, takenAs, step}
+use Rattle.cases_answers.specs.Rows.{wrongPassword, lengthZero, notInSram, lastStored, takenNumber, numberDue, changesNothing, echoedUnder, stageAfter}
+
+module _ (session : Session) where
+  password-number : (port : Port) (all : List ℕ) (a b : Bool) → eqb (length all) 8 ≡ a
+      → passes all (session .configuration .password) ≡ b
+      → outcomeNumber (passwordReceived session port all .outcome) ≡ cond (wrongPassword session all) 2 0
+  unfolding passwordReceived checked
+  password-number port all true true e f = rw (e, f)
+  password-number port all true false e f = rw (e, f)
+  password-number port all false b e f = rw e
+
+  header-number : (port : Port) (all : List ℕ) (a b c : Bool) → eqb (length all) 8 ≡ a
+      → announcesNone (headerRead (session .configuration) all) ≡ b
+      → within (session .configuration) (headerRead (session .configuration) all) ≡ c
+      → outcomeNumber (headerReceived session port all .outcome)
+      ≡ cond (lengthZero session all) 3 (cond (notInSram session all) 4 0)
+  unfolding headerReceived validated
+  header-number port all true true c e f g = rw (e, f)
+  header-number port all true false true e f g = rw (e, f, g)
+  header-number port all true false false e f g = rw (e, f, g)
+  header-number port all false b c e f g = rw e
+
+  data-number : (port : Port) (load : Load) (bytes : List ℕ) (a : Bool) → eqb (length bytes) (load .owed) ≡ a
+      → outcomeNumber (loaded session port load bytes .outcome) ≡ cond (lastStored load bytes) 5 0
+  unfolding loaded
+  data-number port load bytes true e = rw e
+  data-number port load bytes false e = rw e
+
+  -- an item that is taken
+  taken-number : (role : Role) (port : Port) (bytes : List ℕ)
+      → outcomeNumber (transition role session port bytes .outcome) ≡ takenNumber role session bytes
+  unfolding transition
+  taken-number Role.Password port bytes =
+      let all = received session bytes in
+      password-number port all (eqb (length all) 8) (passes all (session .configuration .password)) refl refl
+  taken-number Role.Header port bytes =
+      let all = received session bytes in
+      let header = headerRead (session .configuration) all in
+      header-number port all (eqb (length all) 8) (announcesNone header) (within (session .configuration) header) refl refl refl
+  taken-number (Role.Data load) port bytes = data-number port load bytes (eqb (length bytes) (load .owed)) refl
+
+  -- its number is none of those that change nothing
+  taken-changes : (role : Role) (bytes : List ℕ) → changesNothing (takenNumber role session bytes) ≡ false
+  taken-changes Role.Password bytes =
+      by-test (λ (n : ℕ). changesNothing n ≡ false) 2 0 (wrongPassword session (received session bytes)) (λ e. refl) (λ e. refl)
+  taken-changes Role.Header bytes =
+      let all = received session bytes in
+      let changes : ℕ → Type 0 = λ n. changesNothing n ≡ false in
+      by-test changes 3 (cond (notInSram session all) 4 0) (lengthZero session all) (λ e. refl)
+      (λ e. by-test changes 4 0 (notInSram session all) (λ f. refl) (λ f. refl))
+  taken-changes (Role.Data load) bytes =
+      by-test (λ (n : ℕ). changesNothing n ≡ false) 5 0 (lastStored load bytes) (λ e. refl) (λ e. refl)
+
+  -- the stage after what the bytes do
+  abbrev Named : Transition → Type 0
+  Named next = stageAfter (next .outcome) (next .session .stage) ≡ next .session .stage
+
+  begun-named : (port : Port) (v : Validated) → Named (begun session port v)
+  begun-named port (Validated.Refused refusal) = refl
+  begun-named port (Validated.Fits header) = refl
+
+  transition-named : (role : Role) (port : Port) (bytes : List ℕ) → Named (transition role session port bytes)
+  unfolding transition passwordReceived headerReceived checked loaded
+  transition-named Role.Password port bytes =
+      let all = received session bytes in
+      let passed = enters session (Stage.Header port) Outcome.Taken in
+      let tested = passes all (session .configuration .password) in
+      by-test Named (cond tested passed (stops session Refusal.Password)) (holds session Stage.Password all) (eqb (length all) 8)
+      (λ e. by-test Named passed (stops session Refusal.Password) tested (λ f. refl) (λ f. refl))
+      (λ e. refl)
+  transition-named Role.Header port bytes =
+      let all = received session bytes in
+      let v = validated (session .configuration) (headerRead (session .configuration) all) in
+      by-test Named (begun session port v) (holds session (Stage.Header port) all) (eqb (length all) 8)
+      (λ e. begun-named port v) (λ e. refl)
+  transition-named (Role.Data load) port bytes =
+      by-test Named (enters session (Stage.Jumped (jumpOf load)) (Outcome.Jumps (jumpOf load)))
+      (enters session (Stage.Data port (advanced load (length bytes))) Outcome.Taken) (eqb (length bytes) (load .owed))
+      (λ e. refl) (λ e. refl)
+
+  -- data bytes that are taken get 0 or 5
+  taken-kept : (role : Role) (sram bytes : List ℕ) → (takenNumber role session bytes ≡ 0 → ⊥)
+      → (takenNumber role session bytes ≡ 5 → ⊥) → sramAfter role session sram bytes ≡ sram
+  unfolding sramAfter
+  taken-kept Role.Password sram bytes not-0 not-5 = refl
+  taken-kept Role.Header sram bytes not-0 not-5 = refl
+  taken-kept (Role.Data load) sram bytes not-0 not-5 = absurd (either (lastStored load bytes) not-0 not-5)
+    where
+      either : (b : Bool) → (_≡_ {A = ℕ} (cond b 5 0) 0 → ⊥) → (_≡_ {A = ℕ} (cond b 5 0) 5 → ⊥) → ⊥
+      either true not-0 not-5 = not-5 refl
+      either false not-0 not-5 = not-0 refl
+
+-- The identifier of an echo goes by the role and the port, which the item's own tells.
+
+eight-echoed : (wanted : ℕ) (item : Item) → eightUnder wanted item ≡ true → echoedUnder item ≡ wanted - 0x010
+eight-echoed wanted (Item.Of (Source.Can identifier) bytes) e =
+    rw (eqb-true identifier wanted (and-eq-true-iff (eqb identifier wanted) (eqb (length bytes) 8) .0 e .0))
+eight-echoed wanted (Item.Of (Source.Serial mark) bytes) e = absurd (false≢true e)
+
+data-echoed : (owed : ℕ) (item : Item) → dataFitting owed item ≡ true → echoedUnder item ≡ 0x003
+data-echoed owed (Item.Of (Source.Can identifier) bytes) e =
+    let n = length bytes in
+    let h = and-eq-true-iff (eqb identifier 0x013 && leb 1 n && leb n 8) (leb n owed) .0 e .0 in
+    let i = and-eq-true-iff (eqb identifier 0x013 && leb 1 n) (leb n 8) .0 h .0 in
+    rw (eqb-true identifier 0x013 (and-eq-true-iff (eqb identifier 0x013) (leb 1 n) .0 i .0))
+data-echoed owed (Item.Of (Source.Serial mark) bytes) e = absurd (false≢true e)
+
+clean-echoed : (item : Item) → cleanByte item ≡ true → echoedUnder item ≡ 0
+clean-echoed (Item.Of (Source.Can identifier) bytes) e = absurd (false≢true e)
+clean-echoed (Item.Of (Source.Serial mark) bytes) e = refl
+
+counted-echoed : (role : Role) (port : Port) (item : Item) → countsAs role port item ≡ true
+    → echoedUnder item ≡ underPort port (echoIdentifier role)
+counted-echoed Role.Password Port.Can item e = eight-echoed 0x011 item e
+counted-echoed Role.Header Port.Can item e = eight-echoed 0x012 item e
+counted-echoed (Role.Data load) Port.Can item e = data-echoed (load .owed) item e
+counted-echoed role Port.Serial item e = clean-echoed item e
+
+abbrev EchoedBy : Item → Reaction → Type 0
+EchoedBy item Reaction.Ignores = Unit {0}
+EchoedBy item (Reaction.Takes role port) = echoedUnder item ≡ underPort port (echoIdentifier role)
+
+echoed-by : (stage : Stage) (item : Item) → EchoedBy item (reaction stage item)
+unfolding reaction
+echoed-by Stage.Waiting item =
+    let port = portOf item in
+    by-hearing (EchoedBy item) Role.Password port item (counted-echoed Role.Password port item) (λ e. tt)
+echoed-by Stage.Password item =
+    by-hearing (EchoedBy item) Role.Password Port.Serial item (counted-echoed Role.Password Port.Serial item) (λ e. tt)
+echoed-by (Stage.Header port) item =
+    by-hearing (EchoedBy item) Role.Header port item (counted-echoed Role.Header port item) (λ e. tt)
+echoed-by (Stage.Data port load) item =
+    by-hearing (EchoedBy item) (Role.Data load) port item (counted-echoed (Role.Data load) port item) (λ e. tt)
+echoed-by (Stage.Stopped refusal) item = tt
+echoed-by (Stage.Jumped jump) item = tt
+
+module _ (session : Session) (sram : List ℕ) (item : Item) where
+  -- the tests of the table, in their order
+  abbrev pub Tested : Bool → Bool → Bool → Reaction → Type 0
+  Tested a b c r =
+      (rightSize (session .configuration) sram ≡ a)
+      × (sound session ≡ b)
+      × (wellFormed item ≡ c)
+      × (reaction (session .stage) item ≡ r)
+
+  pub exactly : (a b c : Bool) (r : Reaction) → Tested a b c r → step session sram item .number ≡ numberDue session sram item
+  unfolding step takenAs precheck
+  exactly true true true (Reaction.Takes role port) t = rw (t .0, t .1, t .2, t .3) (taken-number session role port (bytesOf item))
+  exactly true true true Reaction.Ignores t = rw (t .0, t .1, t .2, t .3)
+  exactly true true false r t = rw (t .0, t .1, t .2)
+  exactly true false c r t = rw (t .0, t .1)
+  exactly false b c r t = rw (t .0)
+
+  pub kept : (a b c : Bool) (r : Reaction) → Tested a b c r → (numberDue session sram item ≡ 0 → ⊥)
+      → (numberDue session sram item ≡ 5 → ⊥) → step session sram item .sram ≡ sram
+  unfolding step takenAs precheck
+  kept true true true (Reaction.Takes role port) t not-0 not-5 =
+      rw (t .0, t .1, t .2, t .3)
+      (taken-kept session role sram (bytesOf item)
+      (λ zero. not-0 (rw (t .0, t .1, t .2, t .3) zero)) (λ five. not-5 (rw (t .0, t .1, t .2, t .3) five)))
+  kept true true true Reaction.Ignores t not-0 not-5 = rw (t .0, t .1, t .2, t .3)
+  kept true true false r t not-0 not-5 = rw (t .0, t .1, t .2)
+  kept true false c r t not-0 not-5 = rw (t .0, t .1)
+  kept false b c r t not-0 not-5 = rw (t .0)
+
+  pub unmoved : (a b c : Bool) (r : Reaction) → Tested a b c r → changesNothing (numberDue session sram item) ≡ true
+      → step session sram item ≡ unchanged (step session sram item .answer .outcome) session sram
+  unfolding step precheck
+  unmoved true true true (Reaction.Takes role port) t e =
+      absurd (true≢false (sym (rw (t .0, t .1, t .2, t .3) at e) ∙ taken-changes session role (bytesOf item)))
+  unmoved true true true Reaction.Ignores t e = rw (t .0, t .1, t .2, t .3)
+  unmoved true true false r t e = rw (t .0, t .1, t .2)
+  unmoved true false c r t e = rw (t .0, t .1)
+  unmoved false b c r t e = rw (t .0)
+
+  pub echoed : (a b c : Bool) (r : Reaction) → Tested a b c r → changesNothing (numberDue session sram item) ≡ false
+      → step session sram item .answer .echo ≡ echoUnder (echoedUnder item) (bytesOf item)
+  unfolding step takenAs precheck
+  echoed true true true (Reaction.Takes role port) t e =
+      let under : EchoedBy item (Reaction.Takes role port) = rw (t .3) at (echoed-by (session .stage) item) in
+      rw (t .0, t .1, t .2, t .3, under)
+  echoed true true true Reaction.Ignores t e = absurd (true≢false (rw (t .0, t .1, t .2, t .3) at e))
+  echoed true true false r t e = absurd (true≢false (rw (t .0, t .1, t .2) at e))
+  echoed true false c r t e = absurd (true≢false (rw (t .0, t .1) at e))
+  echoed false b c r t e = absurd (true≢false (rw (t .0) at e))
+
+  pub leaves : (a b c : Bool) (r : Reaction) → Tested a b c r
+      → stageAfter (step session sram item .answer .outcome) (step session sram item .session .stage)
+      ≡ step session sram item .session .stage
+  unfolding step takenAs precheck
+  leaves true true true (Reaction.Takes role port) t = rw (t .0, t .1, t .2, t .3) (transition-named session role port (bytesOf item))
+  leaves true true true Reaction.Ignores t = rw (t .0, t .1, t .2, t .3)
+  leaves true true false r t = rw (t .0, t .1, t .2)
+  leaves true false c r t = rw (t .0, t .1)
+  leaves false b c r t = rw (t .0)

@@ -1,0 +1,98 @@
+-- The rows of 01's table "What the head says back" for one item, each by its own words, and the claim that the rules give them. Which items
+-- are taken, and in which role, they share with the rules (`session_items: Reacting.reaction`).
+use Prim.Native.Nat.{ℕ, _-_}
+use mathlib.Core.Path.{_≡_}
+use mathlib.Core.List.{List}
+use mathlib.Core.Bool.{Bool, true, false, cond, not, _&&_, _||_}
+use lib.Dec.{eqb}
+use lib.ListN.{length}
+use Rattle.header.specs.Reading.{headerRead, announcesNone, within}
+use Rattle.password.specs.Passing.{passes}
+use Rattle.sram.specs.Region.{rightSize}
+use Rattle.session_state.specs.declared.Load.{Load}
+use Rattle.session_state.specs.declared.Session.{Session}
+use Rattle.session_state.specs.declared.Stage.{Stage}
+use Rattle.session_answers.specs.declared.Outcome.{Outcome}
+use Rattle.session_answers.specs.Answers.{echoUnder, unchanged}
+use Rattle.session_items.specs.declared.Reaction.{Reaction}
+use Rattle.session_items.specs.declared.Role.{Role}
+use Rattle.session_items.specs.declared.Source.{Source}
+use Rattle.session_items.specs.Items.{Item, wellFormed, bytesOf}
+use Rattle.session_items.specs.Reacting.{reaction}
+use Rattle.session.specs.Rules.{received, step}
+use Rattle.session_state.specs.Sound.{sound}
+
+-- 2: "8th password byte in, check not passed"
+abbrev pub wrongPassword : Session → List ℕ → Bool
+wrongPassword session all = eqb (length all) 8 && not (passes all (session .configuration .password))
+
+-- 3: "header complete, length 0"
+abbrev pub lengthZero : Session → List ℕ → Bool
+lengthZero session all = eqb (length all) 8 && announcesNone (headerRead (session .configuration) all)
+
+-- 4: "header complete, length not 0, not wholly in SRAM"
+abbrev pub notInSram : Session → List ℕ → Bool
+notInSram session all =
+    eqb (length all) 8
+    && not (announcesNone (headerRead (session .configuration) all))
+    && not (within (session .configuration) (headerRead (session .configuration) all))
+
+-- 5: "last byte stored"
+abbrev pub lastStored : Load → List ℕ → Bool
+lastStored load bytes = eqb (length bytes) (load .owed)
+
+-- "item taken and none of 2 to 5 due": 0
+abbrev pub takenNumber : Role → Session → List ℕ → ℕ
+takenNumber Role.Password session bytes = cond (wrongPassword session (received session bytes)) 2 0
+takenNumber Role.Header session bytes =
+    cond (lengthZero session (received session bytes)) 3 (cond (notInSram session (received session bytes)) 4 0)
+takenNumber (Role.Data load) session bytes = cond (lastStored load bytes) 5 0
+
+-- "item ignored": 1
+abbrev pub ruledNumber : Reaction → Session → Item → ℕ
+ruledNumber Reaction.Ignores session item = 1
+ruledNumber (Reaction.Takes role port) session item = takenNumber role session (bytesOf item)
+
+-- "One item: 7, then 8, then 6, then the session's rules."
+abbrev pub numberDue : Session → List ℕ → Item → ℕ
+numberDue session sram item =
+    cond (rightSize (session .configuration) sram)
+    (cond (sound session)
+    (cond (wellFormed item)
+    (ruledNumber (reaction (session .stage) item) session item)
+    6)
+    8)
+    7
+
+-- the numbers whose rows say "nothing changed"
+abbrev pub changesNothing : ℕ → Bool
+changesNothing number = eqb number 1 || eqb number 6 || eqb number 7 || eqb number 8
+
+-- the identifier of an echo: "under 0x001, 0x002, 0x003", which is the frame's own less 0x010; serial has none
+abbrev pub echoedUnder : Item → ℕ
+echoedUnder (Item.Of (Source.Can identifier) bytes) = identifier - 0x010
+echoedUnder (Item.Of (Source.Serial mark) bytes) = 0
+
+-- the stage after an answer: 2 to 4 "session stopped", 5 where the head jumps; of the others no row names a stage
+abbrev pub stageAfter : Outcome → Stage → Stage
+stageAfter Outcome.Taken stage = stage
+stageAfter Outcome.Ignored stage = stage
+stageAfter (Outcome.Stops refusal) stage = Stage.Stopped refusal
+stageAfter (Outcome.Jumps jump) stage = Stage.Jumped jump
+stageAfter (Outcome.Refused fault) stage = stage
+
+-- "Each is given exactly in its row's case. Only 0 and 5 may change SRAM.", and what the rows return and leave
+pub record RowsHold : Type 0 where
+  pub exactly : (session : Session) (sram : List ℕ) (item : Item)
+      → step session sram item .number ≡ numberDue session sram item
+  pub only-0-and-5 : (session : Session) (sram : List ℕ) (item : Item)
+      → (numberDue session sram item ≡ 0 → ⊥) → (numberDue session sram item ≡ 5 → ⊥) → step session sram item .sram ≡ sram
+  -- "no echo; nothing changed", "number only; nothing changed"
+  pub unmoved : (session : Session) (sram : List ℕ) (item : Item) → changesNothing (numberDue session sram item) ≡ true
+      → step session sram item ≡ unchanged (step session sram item .answer .outcome) session sram
+  -- 0 and 2 to 5: "echo"
+  pub echoed : (session : Session) (sram : List ℕ) (item : Item) → changesNothing (numberDue session sram item) ≡ false
+      → step session sram item .answer .echo ≡ echoUnder (echoedUnder item) (bytesOf item)
+  pub leaves : (session : Session) (sram : List ℕ) (item : Item)
+      → stageAfter (step session sram item .answer .outcome) (step session sram item .session .stage)
+      ≡ step session sram item .session .stage

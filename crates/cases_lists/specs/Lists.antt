@@ -1,0 +1,139 @@
+-- Lists of calls for demand 3: by CAN one that jumps, by serial one that does not and one that does, each with both ports, faulty bytes and a frame refused for
+-- its form, and one with no opening.
+use Prim.Native.Nat.{ℕ}
+use mathlib.Core.List.{List, [], _∷_, _++_, map}
+use mathlib.Core.Bool.{true, false}
+use mathlib.Core.Option.{none}
+use lib.ListN.{take, replicate}
+use Rattle.boot_table.specs.Table.{publicPassword}
+use Rattle.session_state.specs.declared.Port.{Port}
+use Rattle.session_state.specs.declared.Stage.{Stage}
+use Rattle.session_fresh.specs.Fresh.{freshSession}
+use Rattle.session_items.specs.declared.Source.{Source}
+use Rattle.session_items.specs.Items.{Item}
+use Rattle.session_answers.specs.declared.Outcome.{Outcome}
+use Rattle.session_answers.specs.Answers.{outcomeNumber}
+use Rattle.session.specs.Running.{Call, Run, ran}
+use Rattle.session_merging.specs.Merging.{pickedPort, streamOf, plainOf, complete, jumpsIn}
+use Rattle.cases_rules.specs.Trials.{Case, trial, public, filledWith}
+
+-- a CAN frame, and a clean and a faulty serial byte
+abbrev frame : ℕ → List ℕ → Item
+frame identifier bytes = Item.Of (Source.Can identifier) bytes
+
+abbrev clean : ℕ → Item
+clean byte = Item.Of (Source.Serial 0) (byte ∷ [])
+
+abbrev faulty : ℕ → Item
+faulty byte = Item.Of (Source.Serial 1) (byte ∷ [])
+
+abbrev runOf : List Item → Run
+runOf items = ran (freshSession public) (filledWith 0xEE) items
+
+abbrev numbersOf : Run → List ℕ
+numbersOf run = map (λ (call : Call). outcomeNumber (call .answer .outcome)) (run .calls)
+
+-- each echo: its identifier, and the bytes sent
+abbrev echoesOf : Run → List (List ℕ)
+echoesOf run =
+    map (λ (call : Call). call .answer .echo .identifier ∷ take (call .answer .echo .length) (call .answer .echo .bytes)) (run .calls)
+
+-- a missing echo
+abbrev nothing : List ℕ
+nothing = 0 ∷ []
+
+-- start 0x4000000B, VLE, 3 bytes
+abbrev vleHeader : List ℕ
+vleHeader = 0x40 ∷ 0x00 ∷ 0x00 ∷ 0x0B ∷ 0x80 ∷ 0x00 ∷ 0x00 ∷ 0x03 ∷ []
+
+-- by CAN, with that header
+abbrev jumping : List Item
+jumping =
+    faulty 0xFE
+    ∷ frame 0x800 (0x01 ∷ [])
+    ∷ frame 0x012 (replicate 8 0x40)
+    ∷ frame 0x011 publicPassword
+    ∷ clean 0xFE
+    ∷ frame 0x011 publicPassword
+    ∷ frame 0x012 vleHeader
+    ∷ frame 0x013 (0x11 ∷ 0x22 ∷ 0x33 ∷ 0x44 ∷ [])
+    ∷ frame 0x013 (0xAA ∷ 0xBB ∷ [])
+    ∷ faulty 0xED
+    ∷ frame 0x013 (replicate 9 0x55)
+    ∷ frame 0x013 (0xCC ∷ [])
+    ∷ frame 0x013 (0xDD ∷ [])
+    ∷ []
+
+-- bytes as clean items
+abbrev cleanAll : List ℕ → List Item
+cleanAll bytes = map clean bytes
+
+-- the rest of the public password, and a header: start 0x40000004, 2 bytes
+abbrev opened : List Item
+opened =
+    cleanAll (0xED ∷ 0xFA ∷ 0xCE ∷ 0xCA ∷ 0xFE ∷ 0xBE ∷ 0xEF ∷ [])
+    ++ cleanAll (0x40 ∷ 0x00 ∷ 0x00 ∷ 0x04 ∷ 0x00 ∷ 0x00 ∷ 0x00 ∷ 0x02 ∷ [])
+
+-- by serial: of the 2 bytes announced the second comes faulty
+abbrev lacking : List Item
+lacking =
+    (faulty 0xFE ∷ frame 0x013 (0x77 ∷ []) ∷ clean 0xFE ∷ frame 0x011 publicPassword ∷ [])
+    ++ opened
+    ++ (clean 0xAA ∷ frame 0x011 (replicate 9 0) ∷ faulty 0xBB ∷ [])
+
+-- and then clean, with one byte more
+abbrev finished : List Item
+finished = lacking ++ (clean 0xBB ∷ clean 0xCC ∷ [])
+
+-- no opening: a faulty byte, and frames that open nothing
+abbrev silent : List Item
+silent = faulty 0xFE ∷ frame 0x012 vleHeader ∷ frame 0x011 (0xFE ∷ []) ∷ []
+
+unfoldable pub listTable : List Case
+listTable =
+    trial (numbersOf (runOf jumping)) (1 ∷ 6 ∷ 1 ∷ 0 ∷ 1 ∷ 1 ∷ 0 ∷ 1 ∷ 0 ∷ 1 ∷ 6 ∷ 5 ∷ 1 ∷ [])
+    ∷ trial (jumpsIn (runOf jumping .calls)) (Outcome.Jumps (record { start = record { 0 = 0x40000008 }; vle = true }) ∷ [])
+    ∷ trial (echoesOf (runOf jumping))
+    (nothing
+    ∷ nothing
+    ∷ nothing
+    ∷ (0x001 ∷ publicPassword)
+    ∷ nothing
+    ∷ nothing
+    ∷ (0x002 ∷ vleHeader)
+    ∷ nothing
+    ∷ (0x003 ∷ 0xAA ∷ 0xBB ∷ [])
+    ∷ nothing
+    ∷ nothing
+    ∷ (0x003 ∷ 0xCC ∷ [])
+    ∷ nothing
+    ∷ [])
+    ∷ trial (streamOf jumping)
+    (frame 0x012 (replicate 8 0x40)
+    ∷ frame 0x011 publicPassword
+    ∷ frame 0x011 publicPassword
+    ∷ frame 0x012 vleHeader
+    ∷ frame 0x013 (0x11 ∷ 0x22 ∷ 0x33 ∷ 0x44 ∷ [])
+    ∷ frame 0x013 (0xAA ∷ 0xBB ∷ [])
+    ∷ frame 0x013 (0xCC ∷ [])
+    ∷ frame 0x013 (0xDD ∷ [])
+    ∷ [])
+    ∷ trial (complete public (plainOf public jumping)) true
+    ∷ trial (runOf jumping .sram) (replicate 8 0xEE ++ (0xAA ∷ 0xBB ∷ 0xCC ∷ []) ++ replicate 65525 0xEE)
+    -- nothing is stored with the header
+    ∷ trial (runOf (take 7 jumping) .sram) (filledWith 0xEE)
+    ∷ trial (numbersOf (runOf lacking)) ((1 ∷ 1 ∷ 0 ∷ 1 ∷ []) ++ replicate 16 0 ++ (6 ∷ 1 ∷ []))
+    ∷ trial (jumpsIn (runOf lacking .calls)) []
+    ∷ trial (complete public (plainOf public lacking)) false
+    ∷ trial (runOf lacking .session .stage)
+    (Stage.Data Port.Serial (record { start = record { 0 = 0x40000004 }; vle = false; next = 0x40000005; owed = 1 }))
+    ∷ trial (streamOf lacking)
+    ((faulty 0xFE ∷ clean 0xFE ∷ [])
+    ++ opened
+    ++ (clean 0xAA ∷ faulty 0xBB ∷ []))
+    ∷ trial (jumpsIn (runOf finished .calls)) (Outcome.Jumps (record { start = record { 0 = 0x40000004 }; vle = false }) ∷ [])
+    ∷ trial (runOf finished .sram) (replicate 4 0xEE ++ (0xAA ∷ 0xBB ∷ []) ++ replicate 65530 0xEE)
+    ∷ trial (numbersOf (runOf silent)) (1 ∷ 1 ∷ 1 ∷ [])
+    ∷ trial (streamOf silent) []
+    ∷ trial (pickedPort silent) none
+    ∷ []

@@ -1,8 +1,0 @@
-// A claim about the rules, as the contract of a function that does nothing: lists of calls, one that jumps, one that does not, and one
-// with no opening.
-ghost use Rattle.trials.specs.Trials.{Agree};
-ghost use Rattle.lists.specs.Lists.{listTable};
-
-pub fn lists_agree()
-    ensures { λ _. ⌜ Agree listTable ⌝ }
-{}

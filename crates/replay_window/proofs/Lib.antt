@@ -1,0 +1,4 @@
+pub mod Laws
+pub mod Continuing
+pub mod Turning
+pub mod Sliding

@@ -1,0 +1,13 @@
+-- `session_answers::take_nothing` meets its contract: what `no_echo` ensures.
+use borrow.Author.Needs.{needs}
+use Rattle.session_answers.proofs.take_nothing.Statement.{statement}
+use Rattle.session_answers.proofs.take_nothing.Tie as tie
+
+no-echo-requires : tie.Need-no-echo-requires
+no-echo-requires c κs = search needs
+
+returns : tie.Need-returns
+returns c = rw (c .no-echo .ensures)
+
+pub take-nothing-spec : {M : Type 1} → statement M
+take-nothing-spec = tie.close (tie.spec no-echo-requires returns)
