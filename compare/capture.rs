@@ -2,7 +2,7 @@
 
 use crate::differences::{hex, line};
 use crate::random::Random;
-use crate::replay_record::{can, head};
+use crate::replay_captures::{can, head};
 use crate::{foreign, Among, Tally};
 use reference::capture::{read, Read};
 use std::array;

@@ -4,8 +4,8 @@ use crate::c_numbers::{ECHO, ECHO_LENGTH, REFUSAL, STAGE, START};
 use crate::generators::{clean, faulty, frame, header, load, PUBLIC};
 use crate::harness::{BASE, SRAM};
 use crate::replay::Case;
+use crate::replay_captures::{can, capture_of, head, record, reset, WINDOW};
 use crate::replay_program::Feeding;
-use crate::replay_record::{can, capture_of, head, record, reset, WINDOW};
 use crate::session_exchanges::{self, Exchange};
 use reference::session::{Item, Port};
 

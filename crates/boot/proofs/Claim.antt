@@ -6,13 +6,13 @@ use mathlib.Core.List.{List, [], _∷_}
 use mathlib.Core.Bool.{Bool, true, false, cond}
 use lib.ListN.{length, getD}
 use Rattle.boot_table.specs.declared.Asked.{Asked}
-use Rattle.boot.specs.declared.Choice.{Choice}
-use Rattle.session_configuration.specs.declared.Entered.{Entered}
-use Rattle.boot_rchw.specs.declared.Search.{Search}
-use Rattle.boot.specs.declared.Mode.{Mode}
 use Rattle.boot_table.specs.declared.Row.{Row}
-use Rattle.boot_rchw.specs.Places.{flashPlaces, externalPlaces, goodPlace, searched}
 use Rattle.boot_table.specs.Table.{askedBy, rowFor}
+use Rattle.boot_rchw.specs.declared.Search.{Search}
+use Rattle.boot_rchw.specs.Places.{flashPlaces, externalPlaces, goodPlace, searched}
+use Rattle.session_configuration.specs.declared.Entered.{Entered}
+use Rattle.boot.specs.declared.Choice.{Choice}
+use Rattle.boot.specs.declared.Mode.{Mode}
 use Rattle.boot.specs.Choosing.{allowed, refusal, settled, chosen, bootChoice, choiceNumber, examinedOf}
 use Rattle.boot.specs.Claim.{ChoiceClaim, Ranked}
 
@@ -71,13 +71,13 @@ record Answered (flash : List ℕ) (n : ℕ) (c : Choice) : Type 0 where
   count : Ranked flash (c .answer)
   at-most-six : examinedOf (c .answer) ≤ 6
 
-internal
+internal-ranked
     : (flash : List ℕ) (row : Row) (found : Bool) (place examined : ℕ)
     → Walked flash flashPlaces 0 found place examined
     → Answered flash 0
     (settled Mode.Internal Entered.FromInternal flash (record { found = found; place = place; examined = examined }) row)
 unfolding settled flashPlaces
-internal flash row true place examined w =
+internal-ranked flash row true place examined w =
     let rank : w .0 ≡ examined - 1 = omega arith in
     record {
       number = refl;
@@ -90,24 +90,24 @@ internal flash row true place examined w =
           };
       at-most-six = omega arith;
     }
-internal flash row false place examined w = record { number = refl; count = (w .0, w .1); at-most-six = omega arith }
+internal-ranked flash row false place examined w = record { number = refl; count = (w .0, w .1); at-most-six = omega arith }
 
-external
+external-ranked
     : (flash memory : List ℕ) (row : Row) (found : Bool) (place examined : ℕ)
     → Walked memory externalPlaces 0 found place examined
     → Answered flash 0
     (settled Mode.External Entered.FromExternal memory (record { found = found; place = place; examined = examined }) row)
 unfolding settled externalPlaces
-external flash memory row true place examined w =
+external-ranked flash memory row true place examined w =
     record { number = refl; count = omega arith; at-most-six = omega arith }
-external flash memory row false place examined w =
+external-ranked flash memory row false place examined w =
     record { number = refl; count = w .0; at-most-six = omega arith }
 
 chosen-answers : (asked : Asked) (flash shadow memory : List ℕ) → Answered flash 0 (chosen asked flash shadow memory)
 unfolding chosen
-chosen-answers Asked.Internal flash shadow memory = internal flash (rowFor Asked.Internal shadow) _ _ _ (search-finds flash 0 flashPlaces)
+chosen-answers Asked.Internal flash shadow memory = internal-ranked flash (rowFor Asked.Internal shadow) _ _ _ (search-finds flash 0 flashPlaces)
 chosen-answers Asked.External flash shadow memory =
-    external flash memory (rowFor Asked.External shadow) _ _ _ (search-finds memory 0 externalPlaces)
+    external-ranked flash memory (rowFor Asked.External shadow) _ _ _ (search-finds memory 0 externalPlaces)
 chosen-answers Asked.Serial flash shadow memory = record { number = refl; count = refl; at-most-six = omega arith }
 
 -- the choice that the test of the sizes picks

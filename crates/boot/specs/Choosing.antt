@@ -6,14 +6,14 @@ use lib.ListN.{length, replicate}
 use lib.Dec.{leb, eqb}
 use Rattle.octets.specs.Read.{wordAt}
 use Rattle.boot_table.specs.declared.Asked.{Asked}
+use Rattle.boot_table.specs.declared.Row.{Row}
+use Rattle.boot_table.specs.Table.{askedBy, rowFor}
+use Rattle.boot_rchw.specs.declared.Search.{Search}
+use Rattle.boot_rchw.specs.Places.{flashPlaces, externalPlaces, searched, watchdogAt, bus16At}
 use Rattle.session_configuration.specs.declared.Entered.{Entered}
 use Rattle.boot.specs.declared.Mode.{Mode}
-use Rattle.boot_rchw.specs.declared.Search.{Search}
-use Rattle.boot_table.specs.declared.Row.{Row}
 use Rattle.boot.specs.declared.Answer.{Answer}
 use Rattle.boot.specs.declared.Choice.{Choice}
-use Rattle.boot_rchw.specs.Places.{flashPlaces, externalPlaces, searched, watchdogAt, bus16At}
-use Rattle.boot_table.specs.Table.{askedBy, rowFor}
 
 -- "BOOTCFG (0 to 3); the flash from address 0 (at most 2,097,152 bytes, any shorter length too); 12 shadow bytes ..; the first 8 bytes
 -- of external memory"

@@ -1,12 +1,13 @@
 // The C interface (include/boot_assist.h): the names of the calls.
 ghost use mathlib.Core.Path.{_≡_};
 ghost use mathlib.Core.List.{[], _∷_};
+ghost use Rattle.capture.specs.Located.{asLocated, locatedAt};
 ghost use Rattle.session_items.specs.declared.Source.{Source};
 ghost use Rattle.session_items.specs.Items.{Item};
 ghost use Rattle.c_choice.specs.Calls.{asChoiceReply, choiceAnswer, asFreshReply, sessionReply};
 ghost use Rattle.c_rows.specs.Calls.{asRowsReply, choiceRowsReply, sessionRowsReply};
-ghost use Rattle.capture.specs.Located.{asLocated, locatedAt};
-ghost use Rattle.c_items.specs.Calls.{asReply, itemReply, listReply};
+ghost use Rattle.c_items.specs.Calls.{asReply, itemReply};
+ghost use Rattle.c_list.specs.Calls.{listReply};
 
 // The boot choice.
 #[no_mangle]
@@ -100,7 +101,7 @@ pub extern "C" fn boot_assist_list(
         ≡ listReply (now (session .entry)) (now (sram .entry)) (now (kinds .entry)) (now (identifiers .entry)) (now (counts .entry)) (now (bytes .entry)) (now (answers .entry))
         ⌝ }
 {
-    c_items::list(session, sram, kinds, identifiers, counts, bytes, answers)
+    c_list::list(session, sram, kinds, identifiers, counts, bytes, answers)
 }
 
 // The record at a place of a capture.

@@ -1,4 +1,4 @@
--- Bytes written over the first places of a list.
+-- Bytes, or numbers, written over the first places of a list.
 use Prim.Native.Nat.{ℕ}
 use mathlib.Core.List.{List, _++_}
 use mathlib.Core.Bool.{cond}

@@ -1,8 +1,8 @@
 // Bytes and numbers written over the first places of a slice, and bytes moved to its start.
 ghost use mathlib.Core.Path.{_≡_};
 ghost use Prim.Native.Nat.{_-_, _≤_};
-ghost use Rattle.buffers.specs.Write.{over, filled};
 ghost use lib.ListN.{length, drop};
+ghost use Rattle.buffers.specs.Write.{over, filled};
 
 // Writes bytes over the first places of a slice, or nothing where there is no room for them.
 pub fn fill(out: &mut [u8], bytes: &[u8])

@@ -1,7 +1,7 @@
 -- What follows where the precheck has passed, and what an item leaves.
 use Prim.Native.Nat.{ℕ}
 use native.Mathlib.Omega.{arith}
-use mathlib.Core.Path.{_≡_, refl, sym, ap, _∙_}
+use mathlib.Core.Path.{_≡_, refl, ap, _∙_}
 use mathlib.Core.List.{List, []}
 use mathlib.Core.Bool.{Bool, true, false, cond}
 use borrow.Author.Tests.{eqb-true}
@@ -11,7 +11,6 @@ use Rattle.session_answers.specs.declared.Prechecked.{Prechecked}
 use Rattle.session_answers.specs.declared.StepResult.{StepResult}
 use Rattle.session_answers.specs.Answers.{Result, resultOf, precheck}
 use Rattle.session_answers.proofs.Laws.{precheck-passed, fault-some}
-use Rattle.session_list.specs.Listing.{itemsOf, listFits, ListResult, listChecked, runList}
 use Rattle.c_answer.specs.Writing.{answerWidth}
 use Rattle.c_session.specs.Writing.{sessionWidth}
 use Rattle.c_session.specs.Reading.{sessionIn}
@@ -44,20 +43,3 @@ pub result-leaves : (result : StepResult) (number : ℕ) (session sram answer : 
     → asReply number session sram answer ≡ leaves next
 result-leaves result number session sram answer next e f =
     ap (λ r. asReply (r .number) (r .session) sram (r .answer)) e ∙ ap leaves f
-
--- a list that gets 0 has room for its session
-pub list-length : (session sram kinds identifiers counts bytes answers : List ℕ) (leaves : ListResult)
-    → leaves ≡ runList (sessionIn session) sram kinds identifiers counts bytes answers
-    → leaves .number ≡ 0
-    → length session ≡ sessionWidth
-unfolding runList
-list-length session sram kinds identifiers counts bytes answers leaves e zero =
-    by (precheck (sessionIn session) sram (listFits kinds identifiers counts (length bytes) (length answers))) refl
-    (sym (ap (λ (l : ListResult). l .number) e) ∙ zero)
-  where
-    by : (first : Prechecked)
-        → precheck (sessionIn session) sram (listFits kinds identifiers counts (length bytes) (length answers)) ≡ first
-        → listChecked first (sessionIn session) sram (itemsOf kinds identifiers counts bytes) answers .number ≡ 0
-        → length session ≡ sessionWidth
-    by Prechecked.Passed none e = passed-length session sram (listFits kinds identifiers counts (length bytes) (length answers)) none
-    by (Prechecked.Refused fault) refused e = absurd (fault-some fault e)

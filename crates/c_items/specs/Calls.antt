@@ -1,15 +1,14 @@
--- An item, and a list of items, as C sees them (include/boot_assist.h): sessions and answers are lists of numbers, and memory is lent.
+-- The calls for an item as C sees them (include/boot_assist.h): sessions and answers are lists of numbers, and memory is lent.
 use Prim.Native.Nat.{ℕ}
 use mathlib.Core.List.{List}
 use mathlib.Core.Bool.{Bool, cond}
 use lib.Dec.{eqb}
 use lib.ListN.{length}
 use Rattle.session_state.specs.declared.Session.{Session}
+use Rattle.session_items.specs.Items.{Item, wellFormed}
 use Rattle.session_answers.specs.declared.Prechecked.{Prechecked}
 use Rattle.session_answers.specs.Answers.{Result, faultNumber, precheck}
-use Rattle.session_items.specs.Items.{Item, wellFormed}
 use Rattle.session.specs.Rules.{step}
-use Rattle.session_list.specs.Listing.{ListResult, runList}
 use Rattle.c_answer.specs.Writing.{answerWidth, answerNumbers}
 use Rattle.c_session.specs.Writing.{sessionNumbers}
 use Rattle.c_session.specs.Reading.{sessionIn}
@@ -45,13 +44,3 @@ itemLeaves first session sram item answer =
 unfoldable pub itemReply : List ℕ → List ℕ → Item → List ℕ → Reply
 itemReply session sram item answer =
     itemLeaves (itemPrecheck (sessionIn session) sram (wellFormed item) (length answer)) session sram item answer
-
--- what a list leaves: a refused one nothing but its number
-abbrev pub listLeaves : List ℕ → ListResult → Reply
-listLeaves session next =
-    asReply (next .number) (cond (eqb (next .number) 0) (sessionNumbers (next .session)) session) (next .sram) (next .answers)
-
--- a list of items
-unfoldable pub listReply : List ℕ → List ℕ → List ℕ → List ℕ → List ℕ → List ℕ → List ℕ → Reply
-listReply session sram kinds identifiers counts bytes answers =
-    listLeaves session (runList (sessionIn session) sram kinds identifiers counts bytes answers)

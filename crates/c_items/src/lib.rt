@@ -1,13 +1,13 @@
-// The calls for an item and for a list of items on numbers and lent memory, as the C interface has them (include/boot_assist.h).
+// The calls for an item on numbers and lent memory, as the C interface has them (include/boot_assist.h).
 ghost use mathlib.Core.Path.{_≡_};
 ghost use mathlib.Core.List.{[], _∷_};
 ghost use lib.ListN.{length};
-ghost use Rattle.session_answers.specs.Answers.{resultOf};
 ghost use Rattle.session_items.specs.declared.Source.{Source};
 ghost use Rattle.session_items.specs.Items.{Item};
+ghost use Rattle.session_answers.specs.Answers.{resultOf};
 ghost use Rattle.c_answer.specs.Writing.{answerWidth};
 ghost use Rattle.c_session.specs.Writing.{sessionWidth};
-ghost use Rattle.c_items.specs.Calls.{asReply, itemPrecheck, itemReply, leaves, listReply};
+ghost use Rattle.c_items.specs.Calls.{asReply, itemPrecheck, itemReply, leaves};
 use c_answer::ANSWER_WIDTH;
 use session_answers::Outcome;
 use session_answers::Prechecked;
@@ -99,37 +99,4 @@ pub fn byte(session: &mut [u32], sram: &mut [u8], value: u8, mark: u8, answer: &
         &bytes[..],
         answer,
     )
-}
-
-// A list of items.
-pub fn list(
-    session: &mut [u32],
-    sram: &mut [u8],
-    kinds: &[u8],
-    identifiers: &[u32],
-    counts: &[u32],
-    bytes: &[u8],
-    answers: &mut [u32],
-) -> u8
-    ensures { λ r. ⌜
-        asReply r (now (session .exit)) (now (sram .exit)) (now (answers .exit))
-        ≡ listReply (now (session .entry)) (now (sram .entry)) (now (kinds .entry)) (now (identifiers .entry)) (now (counts .entry)) (now (bytes .entry)) (now (answers .entry))
-        ⌝ }
-{
-    let reply = session_list::run(
-        c_session::read_session(session),
-        sram,
-        kinds,
-        identifiers,
-        counts,
-        bytes,
-        answers,
-    );
-    let number = reply.number;
-    if number != 0 {
-        return number;
-    }
-    let last = reply.session;
-    c_session::put_session(session, last);
-    0
 }

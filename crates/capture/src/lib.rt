@@ -70,7 +70,7 @@ pub fn read<'a>(
     let bytes = &capture[at..];
     if bytes.len() == 0 {
         *number = 0;
-        return &bytes[0..0];
+        return &bytes[0..0]; // the end mark
     }
     let RecordHeader::Good(found, size) = find_header(bytes) else {
         *number = 10;

@@ -7,8 +7,6 @@ use borrow.Author.Tests.{eqb-true}
 use lib.Dec.{leb, eqb}
 use lib.ListN.{length}
 use Rattle.octets.proofs.Cases.{by-test}
-use Rattle.header.specs.declared.Validated.{Validated}
-use Rattle.header.specs.Reading.{headerRead, announcesNone, within, validated}
 use Rattle.password.specs.Passing.{passes}
 use Rattle.sram.specs.Region.{rightSize}
 use Rattle.session_state.specs.declared.Load.{Load}
@@ -17,6 +15,8 @@ use Rattle.session_state.specs.declared.Refusal.{Refusal}
 use Rattle.session_state.specs.declared.Session.{Session}
 use Rattle.session_state.specs.declared.Stage.{Stage}
 use Rattle.session_state.specs.Sound.{sound}
+use Rattle.header.specs.declared.Validated.{Validated}
+use Rattle.header.specs.Reading.{headerRead, announcesNone, within, validated}
 use Rattle.session_items.specs.declared.Reaction.{Reaction}
 use Rattle.session_items.specs.declared.Role.{Role}
 use Rattle.session_items.specs.declared.Source.{Source}

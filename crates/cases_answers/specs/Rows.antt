@@ -6,21 +6,21 @@ use mathlib.Core.List.{List}
 use mathlib.Core.Bool.{Bool, true, false, cond, not, _&&_, _||_}
 use lib.Dec.{eqb}
 use lib.ListN.{length}
-use Rattle.header.specs.Reading.{headerRead, announcesNone, within}
 use Rattle.password.specs.Passing.{passes}
 use Rattle.sram.specs.Region.{rightSize}
 use Rattle.session_state.specs.declared.Load.{Load}
 use Rattle.session_state.specs.declared.Session.{Session}
 use Rattle.session_state.specs.declared.Stage.{Stage}
-use Rattle.session_answers.specs.declared.Outcome.{Outcome}
-use Rattle.session_answers.specs.Answers.{echoUnder, unchanged}
+use Rattle.session_state.specs.Sound.{sound}
+use Rattle.header.specs.Reading.{headerRead, announcesNone, within}
 use Rattle.session_items.specs.declared.Reaction.{Reaction}
 use Rattle.session_items.specs.declared.Role.{Role}
 use Rattle.session_items.specs.declared.Source.{Source}
 use Rattle.session_items.specs.Items.{Item, wellFormed, bytesOf}
 use Rattle.session_items.specs.Reacting.{reaction}
+use Rattle.session_answers.specs.declared.Outcome.{Outcome}
+use Rattle.session_answers.specs.Answers.{echoUnder, unchanged}
 use Rattle.session.specs.Rules.{received, step}
-use Rattle.session_state.specs.Sound.{sound}
 
 -- 2: "8th password byte in, check not passed"
 abbrev pub wrongPassword : Session → List ℕ → Bool

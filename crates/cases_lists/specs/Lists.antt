@@ -8,11 +8,11 @@ use lib.ListN.{take, replicate}
 use Rattle.boot_table.specs.Table.{publicPassword}
 use Rattle.session_state.specs.declared.Port.{Port}
 use Rattle.session_state.specs.declared.Stage.{Stage}
-use Rattle.session_fresh.specs.Fresh.{freshSession}
 use Rattle.session_items.specs.declared.Source.{Source}
 use Rattle.session_items.specs.Items.{Item}
 use Rattle.session_answers.specs.declared.Outcome.{Outcome}
 use Rattle.session_answers.specs.Answers.{outcomeNumber}
+use Rattle.session_fresh.specs.Fresh.{freshSession}
 use Rattle.session.specs.Running.{Call, Run, ran}
 use Rattle.session_merging.specs.Merging.{pickedPort, streamOf, plainOf, complete, jumpsIn}
 use Rattle.cases_rules.specs.Trials.{Case, trial, public, filledWith}

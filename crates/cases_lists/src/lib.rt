@@ -1,4 +1,4 @@
-// A claim about the rules, as the contract of a function that does nothing: lists of calls, one that jumps, one that does not, and one
+// A claim about the rules, as the contract of a function that does nothing: lists of calls, two that jump, one that does not, and one
 // with no opening.
 ghost use Rattle.cases_rules.specs.Trials.{Agree};
 ghost use Rattle.cases_lists.specs.Lists.{listTable};

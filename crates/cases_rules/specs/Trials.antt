@@ -4,21 +4,21 @@ use mathlib.Core.Path.{_≡_}
 use mathlib.Core.List.{List, [], _∷_, _++_}
 use mathlib.Core.Bool.{Bool, true, false}
 use lib.ListN.{replicate}
-use Rattle.boot.specs.declared.Answer.{Answer}
+use Rattle.boot_table.specs.Table.{publicPassword}
+use Rattle.boot_rchw.specs.Places.{goodPlace}
 use Rattle.session_configuration.specs.declared.Configuration.{Configuration}
 use Rattle.session_configuration.specs.declared.Entered.{Entered}
+use Rattle.boot.specs.declared.Answer.{Answer}
 use Rattle.boot.specs.declared.Mode.{Mode}
 use Rattle.boot.specs.Choosing.{bootChoice}
-use Rattle.boot_rchw.specs.Places.{goodPlace}
-use Rattle.boot_table.specs.Table.{publicPassword}
 use Rattle.sram.specs.Region.{size}
 use Rattle.session_state.specs.declared.Port.{Port}
 use Rattle.session_state.specs.declared.Session.{Session}
 use Rattle.session_state.specs.declared.Stage.{Stage}
-use Rattle.session_fresh.specs.Fresh.{freshSession, askedFor}
 use Rattle.session_items.specs.declared.Source.{Source}
 use Rattle.session_items.specs.Items.{Item}
 use Rattle.session_answers.specs.Answers.{Result}
+use Rattle.session_fresh.specs.Fresh.{freshSession, askedFor}
 use Rattle.session.specs.Rules.{step}
 
 -- a case: what the rules give, and what 01 says that it is
@@ -129,7 +129,7 @@ table =
     -- "Slips we have seen": half word FFFF in both places; the low address bits dropped before the range test
     ∷ trial (numberOpening halfWordFFFF) 2
     ∷ trial (stageOf (0x40 ∷ 0x00 ∷ 0x00 ∷ 0x03 ∷ 0x00 ∷ 0x01 ∷ 0x00 ∷ 0x00 ∷ []))
-    (accepted 0x40000000 false 65536)
+    (accepted 0x40000000 false 0x10000)
     -- P12 "5A as first byte: not good"
     ∷ trial (goodPlace (0x5A ∷ replicate 7 0) 0) false
     ∷ []

@@ -3,8 +3,8 @@ use Prim.Native.Nat.{ℕ, _*_}
 use mathlib.Core.List.{List, [], _∷_}
 use mathlib.Core.Bool.{Bool, true, false, cond}
 use lib.ListN.{replicate}
-use Rattle.boot.specs.declared.Mode.{Mode}
 use Rattle.session_configuration.specs.declared.Entered.{Entered}
+use Rattle.boot.specs.declared.Mode.{Mode}
 use Rattle.session_state.specs.declared.Session.{Session}
 use Rattle.session_state.specs.declared.Stage.{Stage}
 use Rattle.session_state.specs.Sound.{sound}

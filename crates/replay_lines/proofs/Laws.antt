@@ -12,8 +12,8 @@ use lib.ListN.{length, take, drop, getD, set, length-append, length-drop, take-a
 use lib.Seq.{take-all, take-take, take-append-le, take-at, drop-at, drop-append-add, drop-drop, drop-cons, length-take-le, set-split, append-snoc}
 use Rattle.buffers.specs.Write.{filled}
 use Rattle.buffers.proofs.Lending.{lent, back, put-back}
-use Rattle.session_answers.specs.Answers.{refusalNumber}
 use Rattle.session_state.specs.declared.Stage.{Stage}
+use Rattle.session_answers.specs.Answers.{refusalNumber}
 use Rattle.replay_lines.specs.Digits.{ascii, lastDigit, decimalIn, decimal, hexOf}
 use Rattle.replay_lines.specs.Lines.{echoText, recordLine, addressBytes, lastLine}
 use Rattle.replay_lines.specs.Output.{Wrote, Output, asOutput, appended}

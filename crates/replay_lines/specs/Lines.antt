@@ -1,8 +1,8 @@
 -- The lines that the program prints (01, "The truck's capture file").
 use Prim.Native.Nat.{ℕ, _/_, _%_}
 use mathlib.Core.List.{List, [], _∷_, _++_}
-use Rattle.session_answers.specs.Answers.{refusalNumber}
 use Rattle.session_state.specs.declared.Stage.{Stage}
+use Rattle.session_answers.specs.Answers.{refusalNumber}
 use Rattle.replay_lines.specs.Digits.{ascii, decimal, hexOf}
 
 -- "the echoed data in capital hex or "-""

@@ -8,13 +8,13 @@ use mathlib.Core.Bool.{Bool, true, false, not, _&&_, _||_, false≢true}
 use borrow.Author.Tests.{eq-eqb, ne-eqb, leb-true, leb-false}
 use lib.Dec.{leb, eqb}
 use lib.ListN.{length, drop, drop-of-length-le}
-use Rattle.session_state.specs.declared.Session.{Session}
-use Rattle.session_answers.specs.declared.Outcome.{Outcome}
-use Rattle.session_answers.specs.Answers.{Result, unchanged}
-use Rattle.session_items.specs.Items.{itemIn}
-use Rattle.session.specs.Rules.{step}
 use Rattle.capture.specs.Records.{found, reads, asRead}
 use Rattle.capture.proofs.Laws.{lent, lent-whole, reads-first}
+use Rattle.session_state.specs.declared.Session.{Session}
+use Rattle.session_items.specs.Items.{itemIn}
+use Rattle.session_answers.specs.declared.Outcome.{Outcome}
+use Rattle.session_answers.specs.Answers.{Result, unchanged}
+use Rattle.session.specs.Rules.{step}
 use Rattle.replay_record.specs.Handling.{resetStep, recordStep, Handling, handlingOf}
 
 module _ (session : Session) (sram : List ℕ) (kind : ℕ) (body : List ℕ) where

@@ -1,4 +1,4 @@
--- What a capture begins with (01, "The truck's capture file").
+-- What the program keeps from record to record, and what a capture begins with (01, "The truck's capture file").
 use Prim.Native.Nat.{ℕ}
 use mathlib.Core.List.{List}
 use mathlib.Core.Bool.{false}

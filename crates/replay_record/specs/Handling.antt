@@ -3,13 +3,13 @@ use Prim.Native.Nat.{ℕ}
 use mathlib.Core.List.{List}
 use mathlib.Core.Bool.{cond, not, _&&_}
 use lib.Dec.{eqb}
+use Rattle.capture.specs.Records.{Read}
 use Rattle.session_state.specs.declared.Session.{Session}
-use Rattle.session_fresh.specs.Fresh.{resetSession}
 use Rattle.session_items.specs.Items.{itemIn}
 use Rattle.session_answers.specs.declared.Outcome.{Outcome}
 use Rattle.session_answers.specs.Answers.{Result, resultOf, withoutEcho, unchanged}
+use Rattle.session_fresh.specs.Fresh.{resetSession}
 use Rattle.session.specs.Rules.{step}
-use Rattle.capture.specs.Records.{Read}
 use Rattle.replay_record.specs.declared.Handled.{Handled}
 
 -- "A reset is a new boot choice; SRAM keeps its bytes"; "Reset prints 0 and "-""

@@ -1,7 +1,8 @@
-// What a capture begins with, and what a record of it does (01, "The truck's capture file"): it is read and handed to the session.
+// What the program keeps and begins a capture with, and what a record of it does (01, "The truck's capture file"): it is read and handed to
+// the session.
 ghost use mathlib.Core.Path.{_≡_};
-ghost use Rattle.session_answers.specs.Answers.{resultOf};
 ghost use Rattle.capture.specs.Records.{found};
+ghost use Rattle.session_answers.specs.Answers.{resultOf};
 ghost use Rattle.replay_record.specs.Beginning.{beginning, firstProgress};
 ghost use Rattle.replay_record.specs.Handling.{recordStep, asHandling, handlingOf};
 use session_answers::Outcome;

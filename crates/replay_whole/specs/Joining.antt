@@ -1,4 +1,4 @@
--- The text for a whole capture, which is read in windows (01, "The truck's capture file").
+-- The text for a whole capture, in whatever pieces it is read (01, "The truck's capture file").
 use Prim.Native.Nat.{ℕ, suc, _+_, _≤_, _<_}
 use mathlib.Core.Path.{_≡_}
 use mathlib.Core.List.{List, [], _∷_, _++_}

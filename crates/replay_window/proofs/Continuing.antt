@@ -8,11 +8,11 @@ use borrow.Author.Tests.{eqb-true, eqb-false, leb-true, not-true}
 use lib.Dec.{eqb, leb, ltb}
 use lib.ListN.{length, drop, length-drop}
 use lib.Seq.{take-append-le, take-append-seam, drop-append-le, drop-drop}
-use Rattle.session_answers.specs.Answers.{Result}
-use Rattle.replay_lines.specs.Lines.{recordLine}
 use Rattle.capture.specs.Records.{Read, found}
 use Rattle.capture.proofs.Laws.{found-next}
 use Rattle.capture.proofs.Window.{window as fourteen}
+use Rattle.session_answers.specs.Answers.{Result}
+use Rattle.replay_lines.specs.Lines.{recordLine}
 use Rattle.replay_record.specs.Handling.{handlingOf}
 use Rattle.replay_record.specs.Beginning.{Carried}
 use Rattle.replay_window.specs.Printing.{Printing, recorded, closing, ends, printingOf, printingFrom, textIn, textFrom, keptAfter, printingAfter}

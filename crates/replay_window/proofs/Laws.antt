@@ -1,4 +1,4 @@
--- What is printed of a record that was handled, and that the two together are the record's printing.
+-- What is printed of a record that was handled, and that reading it, handing it in and printing it are the record's printing.
 use Prim.Native.Nat.{ℕ, _+_, _≤_}
 use mathlib.Core.Path.{_≡_, refl, ap, _∙_}
 use mathlib.Core.List.{List, [], _++_}
@@ -6,15 +6,15 @@ use mathlib.Core.Bool.{Bool, true, false, cond}
 use borrow.Author.Tests.{eq-eqb, ne-eqb}
 use lib.Dec.{eqb}
 use lib.ListN.{length}
-use Rattle.session_state.specs.declared.Stage.{Stage}
 use Rattle.capture.specs.Records.{Read}
+use Rattle.session_state.specs.declared.Stage.{Stage}
 use Rattle.replay_lines.specs.Lines.{recordLine, lastLine}
 use Rattle.replay_lines.specs.Output.{Output, asOutput, appended}
 use Rattle.replay_lines.proofs.Laws.{appended-twice}
 use Rattle.replay_record.specs.declared.Handled.{Handled}
 use Rattle.replay_record.specs.Handling.{Handling, asHandling, handlingOf}
-use Rattle.replay_window.specs.declared.Turn.{Turn}
 use Rattle.replay_record.specs.Beginning.{Carried}
+use Rattle.replay_window.specs.declared.Turn.{Turn}
 use Rattle.replay_window.specs.Printing.{Printing, recorded, closing, ends, printingOf, keptAfter, printingAfter}
 use Rattle.replay_window.specs.Windows.{CallResult, asCallResult}
 use Rattle.replay_window.specs.Turns.{Printed, asPrinted, printedAt, printedOf, turnBehind}

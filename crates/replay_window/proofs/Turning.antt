@@ -8,14 +8,14 @@ use borrow.Author.Tests.{leb-true, ltb-true, not-true}
 use lib.Dec.{leb, ltb}
 use lib.ListN.{length, drop, length-append, length-drop}
 use Rattle.buffers.specs.Write.{over}
+use Rattle.capture.specs.Records.{found}
+use Rattle.session_state.specs.declared.Session.{Session}
 use Rattle.replay_lines.specs.Output.{Output, asOutput, appended}
 use Rattle.replay_lines.proofs.Laws.{appended-behind}
-use Rattle.session_state.specs.declared.Session.{Session}
-use Rattle.capture.specs.Records.{found}
 use Rattle.replay_record.specs.declared.Handled.{Handled}
 use Rattle.replay_record.specs.Handling.{asHandling, handlingOf}
-use Rattle.replay_window.specs.declared.Turn.{Turn}
 use Rattle.replay_record.specs.Beginning.{Carried, keeping}
+use Rattle.replay_window.specs.declared.Turn.{Turn}
 use Rattle.replay_window.specs.Printing.{Printing, printingFrom, printingAfter}
 use Rattle.replay_window.specs.Windows.{Playing, onward, readyIn, ready, plays, playedIn, CallResult, asCallResult, resultAfter}
 use Rattle.replay_window.specs.Turns.{asPrinted, printedAt, printedOf, turnBehind}

@@ -4,9 +4,9 @@ use mathlib.Core.List.{List, [], _++_}
 use mathlib.Core.Bool.{Bool, true, false, cond}
 use lib.ListN.{length, take, drop}
 use lib.Dec.{eqb}
+use Rattle.capture.specs.Records.{Read, found}
 use Rattle.session_answers.specs.declared.Echo.{Echo}
 use Rattle.session_answers.specs.Answers.{Result}
-use Rattle.capture.specs.Records.{Read, found}
 use Rattle.replay_lines.specs.Lines.{recordLine, lastLine}
 use Rattle.replay_record.specs.Beginning.{Carried, keeping}
 use Rattle.replay_record.specs.Handling.{Handling, handlingOf}
@@ -28,7 +28,7 @@ recorded kept taken call =
       text = recordLine (kept .ordinal) (call .number) (echoBytes (call .answer .echo));
       taken = taken;
       over = false;
-      kept = record { ordinal = kept .ordinal + 1; session = call .session; sram = call .sram };
+      kept = keeping (kept .ordinal + 1) (call .session) (call .sram);
     }
 
 -- "then one last line"

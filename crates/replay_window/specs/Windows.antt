@@ -1,4 +1,4 @@
--- The text for a capture that is read in windows.
+-- The text for one window of a capture, and what the program has after it.
 use Prim.Native.Nat.{ℕ, zero, suc, _+_, _-_}
 use mathlib.Core.Path.{_≡_}
 use mathlib.Core.List.{List, [], _++_}
@@ -90,7 +90,7 @@ Continues window last kept call =
     []
     (textFrom (keeping (turn .ordinal) (call .played .session) (call .sram)) (drop (turn .at) window ++ rest))
 
--- between two calls of `replay_window::play`: the text so far, whether it has ended, the bytes still to be played, and what is kept
+-- between two calls of `replay_window::play_window`: the text so far, whether it has ended, the bytes still to be played, and what is kept
 pub record Between : Type 0 where
   pub text : List ℕ
   pub ended : Bool

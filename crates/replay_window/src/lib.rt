@@ -1,4 +1,5 @@
-// The text for a capture (01, "The truck's capture file"): each record is handled and its line is printed.
+// The text for a window of a capture (01, "The truck's capture file"): each record is handled and its line is printed, and what is left
+// of the window is moved to its start.
 ghost use mathlib.Core.Path.{_≡_};
 ghost use mathlib.Core.Bool.{true, false};
 ghost use Prim.Native.Nat.{_+_, _-_, _≤_, _<_};

@@ -10,9 +10,6 @@ use lib.Dec.{leb, eqb}
 use lib.ListN.{length, take, length-append, length-take}
 use Rattle.octets.specs.Read.{wordAt}
 use Rattle.octets.proofs.Cases.{by-test}
-use Rattle.header.specs.declared.Header.{Header}
-use Rattle.header.specs.declared.Validated.{Validated}
-use Rattle.header.specs.Reading.{headerRead, announcesNone, within, validated}
 use Rattle.password.specs.Passing.{passes}
 use Rattle.sram.specs.Region.{rightSize}
 use Rattle.sram.proofs.Laws.{range-part, range-rest, range-aligned, stored-size}
@@ -23,6 +20,9 @@ use Rattle.session_state.specs.declared.Session.{Session}
 use Rattle.session_state.specs.declared.Stage.{Stage}
 use Rattle.session_state.specs.Sound.{loadFits, countFits, fitting, sound}
 use Rattle.session_state.proofs.Laws.{SizeFits, load-fits, sound-fits, sound-size, sound-again}
+use Rattle.header.specs.declared.Header.{Header}
+use Rattle.header.specs.declared.Validated.{Validated}
+use Rattle.header.specs.Reading.{headerRead, announcesNone, within, validated}
 use Rattle.session_items.specs.declared.Reaction.{Reaction}
 use Rattle.session_items.specs.declared.Role.{Role}
 use Rattle.session_items.specs.declared.Source.{Source}

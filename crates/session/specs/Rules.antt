@@ -5,9 +5,6 @@ use mathlib.Core.Bool.{cond}
 use lib.ListN.{length, take, replicate}
 use lib.Dec.{eqb}
 use Rattle.buffers.specs.Write.{over}
-use Rattle.header.specs.declared.Header.{Header}
-use Rattle.header.specs.declared.Validated.{Validated}
-use Rattle.header.specs.Reading.{headerRead, validated}
 use Rattle.password.specs.Passing.{passes}
 use Rattle.sram.specs.Region.{stored}
 use Rattle.session_state.specs.declared.Jump.{Jump}
@@ -16,6 +13,9 @@ use Rattle.session_state.specs.declared.Port.{Port}
 use Rattle.session_state.specs.declared.Refusal.{Refusal}
 use Rattle.session_state.specs.declared.Session.{Session}
 use Rattle.session_state.specs.declared.Stage.{Stage}
+use Rattle.header.specs.declared.Header.{Header}
+use Rattle.header.specs.declared.Validated.{Validated}
+use Rattle.header.specs.Reading.{headerRead, validated}
 use Rattle.session_items.specs.declared.Reaction.{Reaction}
 use Rattle.session_items.specs.declared.Role.{Role}
 use Rattle.session_items.specs.Items.{Item, wellFormed, bytesOf}

@@ -5,18 +5,18 @@ use mathlib.Core.Bool.{Bool, cond}
 use lib.ListN.{length, replicate}
 use Rattle.buffers.specs.Write.{over}
 use Rattle.sram.specs.Region.{rightSize}
-use Rattle.session_answers.specs.declared.Answer.{Answer}
-use Rattle.session_answers.specs.declared.Echo.{Echo}
-use Rattle.session_answers.specs.declared.Fault.{Fault}
-use Rattle.session_answers.specs.declared.Outcome.{Outcome}
-use Rattle.session_answers.specs.declared.Prechecked.{Prechecked}
-use Rattle.session_answers.specs.declared.StepResult.{StepResult}
 use Rattle.session_state.specs.declared.Port.{Port}
 use Rattle.session_state.specs.declared.Refusal.{Refusal}
 use Rattle.session_state.specs.declared.Session.{Session}
 use Rattle.session_state.specs.Sound.{sound}
 use Rattle.session_items.specs.declared.Role.{Role}
 use Rattle.session_items.specs.Items.{Item, wellFormed}
+use Rattle.session_answers.specs.declared.Answer.{Answer}
+use Rattle.session_answers.specs.declared.Echo.{Echo}
+use Rattle.session_answers.specs.declared.Fault.{Fault}
+use Rattle.session_answers.specs.declared.Outcome.{Outcome}
+use Rattle.session_answers.specs.declared.Prechecked.{Prechecked}
+use Rattle.session_answers.specs.declared.StepResult.{StepResult}
 
 -- "8th password byte in, check not passed"; "header complete, length 0"; "header complete, length not 0, not wholly in SRAM"
 abbrev pub refusalNumber : Refusal → ℕ

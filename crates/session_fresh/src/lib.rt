@@ -1,4 +1,4 @@
-// Where a session comes from (01, "The words of demand 3").
+// Where a session comes from: a serial choice (01, "The words of demand 3"), or a reset in a capture.
 ghost use mathlib.Core.Path.{_≡_};
 ghost use Rattle.session_fresh.specs.Fresh.{freshSession, configured, resetSession, noSession, freshIn};
 use boot::Mode;
@@ -26,7 +26,7 @@ fn waiting(configuration: Configuration) -> Session
 }
 
 // The fresh session of serial boot, with the password selected and how it was entered.
-pub fn fresh_serial(password: [u8; 8], entered: Entered) -> Session
+fn fresh_serial(password: [u8; 8], entered: Entered) -> Session
     ensures { λ r. ⌜ r ≡ freshSession (configured password entered) ⌝ }
 {
     let configuration = Configuration {

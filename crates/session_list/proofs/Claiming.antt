@@ -4,13 +4,13 @@ use mathlib.Core.Path.{_≡_, refl, sym, ap, _∙_}
 use mathlib.Core.List.{List}
 use lib.ListN.{length}
 use Rattle.session_state.specs.declared.Session.{Session}
-use Rattle.session_fresh.specs.Fresh.{freshSession}
 use Rattle.session_answers.specs.declared.Prechecked.{Prechecked}
 use Rattle.session_answers.specs.Answers.{faultNumber, precheck}
 use Rattle.session_answers.proofs.Laws.{precheck-passed, fault-some}
+use Rattle.session_fresh.specs.Fresh.{freshSession}
 use Rattle.session.specs.Running.{ran}
-use Rattle.session_list.specs.Listing.{itemsOf, listFits, ListResult, asListResult, listRan, runList, ListMerged, ListClaim}
 use Rattle.session_merging.proofs.Stream.{demand-three}
+use Rattle.session_list.specs.Listing.{itemsOf, listFits, ListResult, asListResult, listRan, runList, ListMerged, ListClaim}
 
 module _ (session : Session) (sram kinds identifiers counts bytes answers : List ℕ) (leaves : ListResult)
     (eight : length (session .configuration .password) ≡ 8) (e : leaves ≡ runList session sram kinds identifiers counts bytes answers) where

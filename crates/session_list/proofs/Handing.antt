@@ -12,15 +12,15 @@ use Rattle.buffers.proofs.Lending.{lent, back, put-back}
 use lib.Dec.{leb, eqb}
 use lib.ListN.{length, take, drop, getD, length-append, length-drop, drop-of-length-le}
 use lib.Seq.{drop-cons, drop-drop, getD-drop, take-at, take-all, length-take-le}
+use Rattle.session_state.specs.declared.Session.{Session}
+use Rattle.session_items.specs.Items.{Item, isItem, sourceOf}
 use Rattle.session_answers.specs.declared.Answer.{Answer}
 use Rattle.session_answers.specs.declared.StepResult.{StepResult}
-use Rattle.session_state.specs.declared.Session.{Session}
 use Rattle.session_answers.specs.Answers.{resultOf}
-use Rattle.session_items.specs.Items.{Item, isItem, sourceOf}
 use Rattle.session.specs.Rules.{step}
+use Rattle.session.specs.Running.{ran}
 use Rattle.c_answer.specs.Writing.{answerWidth, answerNumbers}
 use Rattle.c_answer.proofs.Whole.{answer-length}
-use Rattle.session.specs.Running.{ran}
 use Rattle.session_list.specs.Listing.{itemsOf, partsFit, listFits, answerRows, asListResult, listRan}
 
 module _ (kinds counts : List ℕ) (i : ℕ) (h : i < length kinds) where

@@ -7,13 +7,13 @@ use lib.Dec.{leb, eqb}
 use lib.ListN.{length, take, drop, getD}
 use Rattle.session_configuration.specs.declared.Configuration.{Configuration}
 use Rattle.session_state.specs.declared.Session.{Session}
-use Rattle.session_fresh.specs.Fresh.{freshSession}
 use Rattle.session_items.specs.Items.{Item, isItem, sourceOf}
 use Rattle.session_answers.specs.declared.Prechecked.{Prechecked}
 use Rattle.session_answers.specs.Answers.{faultNumber, precheck}
+use Rattle.session_fresh.specs.Fresh.{freshSession}
 use Rattle.session.specs.Running.{Call, Run, ran}
-use Rattle.c_answer.specs.Writing.{answerWidth, answerNumbers}
 use Rattle.session_merging.specs.Merging.{Merging}
+use Rattle.c_answer.specs.Writing.{answerWidth, answerNumbers}
 
 -- the items in order: each has a kind, an identifier and so many of the bytes as its count says
 unfoldable pub itemsOf : List ℕ → List ℕ → List ℕ → List ℕ → List Item

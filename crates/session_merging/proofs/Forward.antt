@@ -11,12 +11,9 @@ use lib.Dec.{leb, eqb}
 use lib.ListN.{length, take, drop, length-append, length-take}
 use lib.Seq.{take-append-seam}
 use Rattle.octets.proofs.Cases.{by-test}
-use Rattle.session_configuration.specs.declared.Configuration.{Configuration}
-use Rattle.header.specs.declared.Header.{Header}
-use Rattle.header.specs.declared.Validated.{Validated}
-use Rattle.header.specs.Reading.{headerRead, announcesNone, within, fits, validated}
 use Rattle.password.specs.Passing.{passes}
 use Rattle.password.proofs.Laws.{passes-equal}
+use Rattle.session_configuration.specs.declared.Configuration.{Configuration}
 use Rattle.sram.specs.Region.{rightSize, stored}
 use Rattle.sram.proofs.Laws.{range-part, stored-none, stored-join}
 use Rattle.session_state.specs.declared.Load.{Load}
@@ -26,7 +23,9 @@ use Rattle.session_state.specs.declared.Session.{Session}
 use Rattle.session_state.specs.declared.Stage.{Stage}
 use Rattle.session_state.specs.Sound.{loadFits, countFits}
 use Rattle.session_state.proofs.Laws.{load-fits, sound-fits}
-use Rattle.session_fresh.specs.Fresh.{freshSession}
+use Rattle.header.specs.declared.Header.{Header}
+use Rattle.header.specs.declared.Validated.{Validated}
+use Rattle.header.specs.Reading.{headerRead, announcesNone, within, fits, validated}
 use Rattle.session_items.specs.declared.Reaction.{Reaction}
 use Rattle.session_items.specs.declared.Role.{Role}
 use Rattle.session_items.specs.declared.Source.{Source}
@@ -37,6 +36,7 @@ use Rattle.session_answers.specs.declared.Fault.{Fault}
 use Rattle.session_answers.specs.declared.Outcome.{Outcome}
 use Rattle.session_answers.specs.Answers.{outcomeNumber, notTaken}
 use Rattle.session_answers.proofs.Laws.{Accepted}
+use Rattle.session_fresh.specs.Fresh.{freshSession}
 use Rattle.session.specs.declared.Transition.{Transition}
 use Rattle.session.specs.Rules.{enters, stops, received, holds, checked, begun, loaded, loadFrom, jumpOf, advanced, passwordReceived, headerReceived, transition, sramAfter, takenAs}
 use Rattle.session.specs.Running.{Call, Run, ran}

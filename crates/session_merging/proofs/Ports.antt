@@ -8,15 +8,14 @@ use borrow.Author.Tests.{eqb-false}
 use lib.Dec.{eqb}
 use lib.ListN.{length}
 use Rattle.octets.proofs.Cases.{by-test}
-use Rattle.session_configuration.specs.declared.Configuration.{Configuration}
-use Rattle.header.specs.declared.Validated.{Validated}
-use Rattle.header.specs.Reading.{headerRead, validated}
 use Rattle.password.specs.Passing.{passes}
+use Rattle.session_configuration.specs.declared.Configuration.{Configuration}
 use Rattle.session_state.specs.declared.Port.{Port}
 use Rattle.session_state.specs.declared.Refusal.{Refusal}
 use Rattle.session_state.specs.declared.Session.{Session}
 use Rattle.session_state.specs.declared.Stage.{Stage}
-use Rattle.session_fresh.specs.Fresh.{freshSession}
+use Rattle.header.specs.declared.Validated.{Validated}
+use Rattle.header.specs.Reading.{headerRead, validated}
 use Rattle.session_items.specs.declared.Reaction.{Reaction}
 use Rattle.session_items.specs.declared.Role.{Role}
 use Rattle.session_items.specs.Items.{Item, portOf, bytesOf}
@@ -25,6 +24,7 @@ use Rattle.session_items.proofs.Laws.{by-hearing}
 use Rattle.session_answers.specs.declared.Outcome.{Outcome}
 use Rattle.session_answers.specs.Answers.{notTaken, unchanged}
 use Rattle.session_answers.proofs.Laws.{Accepted}
+use Rattle.session_fresh.specs.Fresh.{freshSession}
 use Rattle.session.specs.declared.Transition.{Transition}
 use Rattle.session.specs.Rules.{transition, sramAfter, takenAs, step, received, enters, stops, holds, passwordReceived, headerReceived, checked, begun, loaded, jumpOf, advanced}
 use Rattle.session.specs.Running.{Call, Run, ran}

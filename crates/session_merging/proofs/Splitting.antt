@@ -8,10 +8,10 @@ use borrow.Author.Tests.{leb-true, le-leb, lt-leb}
 use lib.Dec.{leb}
 use lib.ListN.{length, take, drop, length-append, length-drop}
 use lib.Seq.{length-take-le, take-at, drop-at}
-use Rattle.session_configuration.specs.declared.Configuration.{Configuration}
-use Rattle.header.specs.Reading.{headerRead, announcesNone, within, fits}
 use Rattle.password.specs.Passing.{passes}
+use Rattle.session_configuration.specs.declared.Configuration.{Configuration}
 use Rattle.sram.specs.Region.{inRange}
+use Rattle.header.specs.Reading.{headerRead, announcesNone, within, fits}
 use Rattle.session_merging.specs.Merging.{plainHeader, announced, complete}
 
 module _ (configuration : Configuration) where

@@ -6,18 +6,18 @@ use mathlib.Core.Bool.{Bool, true, false, cond, true≢false}
 use mathlib.Core.Option.{Option, none, some}
 use lib.ListN.{length}
 use Rattle.session_configuration.specs.declared.Configuration.{Configuration}
-use Rattle.header.specs.Reading.{headerRead}
 use Rattle.sram.specs.Region.{rightSize}
 use Rattle.sram.proofs.Laws.{stored-loaded}
 use Rattle.session_state.specs.declared.Load.{Load}
 use Rattle.session_state.specs.declared.Port.{Port}
 use Rattle.session_state.specs.Sound.{sound}
-use Rattle.session_fresh.specs.Fresh.{freshSession}
+use Rattle.header.specs.Reading.{headerRead}
 use Rattle.session_items.specs.declared.Role.{Role}
 use Rattle.session_items.specs.Items.{Item, bytesOf}
 use Rattle.session_items.specs.Reacting.{eightUnder, dataFitting, cleanByte, countsAs}
 use Rattle.session_items.proofs.Laws.{counted}
 use Rattle.session_answers.proofs.Laws.{Accepted}
+use Rattle.session_fresh.specs.Fresh.{freshSession}
 use Rattle.session_merging.specs.Merging.{pickedPort, inStream, only, cleanBytes, dataBytes, bytesFromHeader, bytesFromPassword, plainFrom, plainOf, plainHeader, announced, Merging}
 use Rattle.session_merging.proofs.Splitting.{announced-in-range}
 use Rattle.session_merging.proofs.Ports.{same-own, Along, passed-along, run-alike, passed-at}

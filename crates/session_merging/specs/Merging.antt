@@ -9,19 +9,19 @@ use mathlib.Core.Bool.{Bool, true, false, cond, not, _&&_}
 use mathlib.Core.Option.{Option, none, some}
 use lib.ListN.{length, take, drop}
 use lib.Dec.{leb, eqb}
-use Rattle.session_configuration.specs.declared.Configuration.{Configuration}
-use Rattle.header.specs.declared.Header.{Header}
-use Rattle.header.specs.Reading.{headerRead, fits}
 use Rattle.password.specs.Passing.{passes}
+use Rattle.session_configuration.specs.declared.Configuration.{Configuration}
 use Rattle.sram.specs.Region.{rightSize, LoadedAt}
 use Rattle.session_state.specs.declared.Jump.{Jump}
 use Rattle.session_state.specs.declared.Port.{Port}
 use Rattle.session_state.specs.Sound.{sound}
-use Rattle.session_fresh.specs.Fresh.{freshSession}
+use Rattle.header.specs.declared.Header.{Header}
+use Rattle.header.specs.Reading.{headerRead, fits}
 use Rattle.session_items.specs.Items.{Item, wellFormed, portOf, bytesOf}
 use Rattle.session_items.specs.Reacting.{eightUnder, dataFitting, cleanByte, opens}
 use Rattle.session_answers.specs.declared.Outcome.{Outcome}
 use Rattle.session_answers.specs.Answers.{outcomeNumber, withoutEcho, notTaken, unchanged}
+use Rattle.session_fresh.specs.Fresh.{freshSession}
 use Rattle.session.specs.Rules.{step}
 use Rattle.session.specs.Running.{Call, Run, ran}
 

@@ -5,9 +5,9 @@ use mathlib.Core.Path.{_≡_, sym, _∙_}
 use mathlib.Core.List.{List}
 use borrow.Author.Tests.{eq-eqb}
 use lib.ListN.{length}
-use Rattle.session_configuration.specs.declared.Configuration.{Configuration}
 use Rattle.buffers.specs.Write.{filled}
 use Rattle.buffers.proofs.Lending.{lent, back, put-back}
+use Rattle.session_configuration.specs.declared.Configuration.{Configuration}
 use Rattle.sram.specs.Region.{size, base, stored, storedInRange}
 use Rattle.sram.proofs.Laws.{in-range, stored-in-range}
 

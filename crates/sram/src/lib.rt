@@ -10,7 +10,7 @@ pub struct Aligned(pub u32);
 const BASE: u32 = 0x4000_0000;
 
 // How many bytes SRAM has.
-pub fn size_for(configuration: Configuration) -> u32
+fn size_for(configuration: Configuration) -> u32
     ensures { λ r. ⌜ r ≡ size configuration ⌝ }
 {
     65536

@@ -8,10 +8,10 @@ use denote.Ref.{now}
 use borrow.Author.Tests.{le-leb, lt-leb, eq-eqb, ne-eqb}
 use borrow.Author.Needs.{needs}
 use Rattle.octets.specs.Read.{firstEight}
+use Rattle.buffers.specs.Write.{filled}
 use Rattle.boot.specs.declared.Mode.{Mode}
 use Rattle.session_fresh.specs.declared.Start.{Start}
 use Rattle.session_fresh.specs.Fresh.{freshIn}
-use Rattle.buffers.specs.Write.{filled}
 use Rattle.c_session.specs.Writing.{sessionWidth, sessionNumbers}
 use Rattle.c_session.proofs.Lengths.{put-whole}
 use Rattle.c_choice.specs.Numbers.{modeOf}

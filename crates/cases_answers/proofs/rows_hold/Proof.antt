@@ -5,10 +5,10 @@ use mathlib.Core.List.{List}
 use mathlib.Core.Bool.{Bool}
 use Rattle.sram.specs.Region.{rightSize}
 use Rattle.session_state.specs.declared.Session.{Session}
+use Rattle.session_state.specs.Sound.{sound}
 use Rattle.session_items.specs.declared.Reaction.{Reaction}
 use Rattle.session_items.specs.Items.{Item, wellFormed}
 use Rattle.session_items.specs.Reacting.{reaction}
-use Rattle.session_state.specs.Sound.{sound}
 use Rattle.cases_answers.proofs.Answering.{Tested, exactly, kept, unmoved, echoed, leaves}
 use Rattle.cases_answers.proofs.rows_hold.Statement.{statement}
 use Rattle.cases_answers.proofs.rows_hold.Tie as tie

@@ -1,10 +1,10 @@
 -- `cases_lists::lists_agree` meets its contract: each case holds by computation.
 use mathlib.Core.Path.{refl}
 use Rattle.octets.specs.Same.{same}
-use Rattle.header.specs.Reading.{validated}
 use Rattle.password.specs.Passing.{passes}
 use Rattle.sram.specs.Region.{size, base, inRange, aligned, stored}
 use Rattle.session_state.specs.Sound.{sound}
+use Rattle.header.specs.Reading.{validated}
 use Rattle.session_items.specs.Reacting.{reaction}
 use Rattle.session_answers.specs.Answers.{precheck}
 use Rattle.session.specs.Rules.{step, takenAs, transition, passwordReceived, checked, headerReceived, loaded, sramAfter}

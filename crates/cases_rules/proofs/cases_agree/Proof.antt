@@ -1,13 +1,13 @@
 -- `cases_rules::cases_agree` meets its contract: each case holds by computation.
 use mathlib.Core.Path.{refl}
 use Rattle.octets.specs.Same.{same}
-use Rattle.boot.specs.Choosing.{bootChoice, chosen, settled}
-use Rattle.boot_rchw.specs.Places.{goodPlace, searched, flashPlaces}
 use Rattle.boot_table.specs.Table.{askedBy, rowFor, rowOf, control55AA}
-use Rattle.header.specs.Reading.{validated}
+use Rattle.boot_rchw.specs.Places.{goodPlace, searched, flashPlaces}
 use Rattle.password.specs.Passing.{passes}
+use Rattle.boot.specs.Choosing.{bootChoice, chosen, settled}
 use Rattle.sram.specs.Region.{size, base, inRange}
 use Rattle.session_state.specs.Sound.{sound}
+use Rattle.header.specs.Reading.{validated}
 use Rattle.session_items.specs.Reacting.{reaction}
 use Rattle.session_answers.specs.Answers.{precheck}
 use Rattle.session.specs.Rules.{step, takenAs, transition, passwordReceived, checked, headerReceived}

@@ -7,13 +7,13 @@ use mathlib.Core.List.{[]}
 use lib.ListN.{length, length-append}
 use denote.Ref.{now}
 use Rattle.session_answers.specs.Answers.{outcomeNumber}
-use Rattle.replay_record.specs.Handling.{asHandling}
 use Rattle.replay_lines.specs.Lines.{recordLine}
 use Rattle.replay_lines.specs.Output.{asOutput}
 use Rattle.replay_lines.proofs.Laws.{record-length, last-length}
+use Rattle.replay_record.specs.Handling.{asHandling}
+use Rattle.replay_record.specs.Beginning.{keeping}
 use Rattle.replay_window.proofs.print_handled.Statement.{statement}
 use Rattle.replay_window.proofs.print_handled.Tie as tie
-use Rattle.replay_record.specs.Beginning.{keeping}
 use Rattle.replay_window.specs.Printing.{Printing, echoBytes, closing}
 use Rattle.replay_window.specs.Turns.{printedOf}
 use Rattle.replay_window.proofs.Laws.{printing-bad, printing-end, printing-record, last-behind}

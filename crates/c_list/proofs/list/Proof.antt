@@ -1,12 +1,12 @@
--- `c_items::list` meets its contract: a refused list, or the list's session written.
+-- `c_list::list` meets its contract: a refused list, or the list's session written.
 use denote.Ref.{now}
 use borrow.Author.Tests.{eq-eqb, ne-eqb}
 use borrow.Author.Needs.{needs}
-use Rattle.c_items.specs.Calls.{listReply}
 use Rattle.c_session.proofs.Lengths.{put-whole}
-use Rattle.c_items.proofs.Laws.{list-length}
-use Rattle.c_items.proofs.list.Statement.{statement}
-use Rattle.c_items.proofs.list.Tie as tie
+use Rattle.c_list.specs.Calls.{listReply}
+use Rattle.c_list.proofs.Laws.{list-length}
+use Rattle.c_list.proofs.list.Statement.{statement}
+use Rattle.c_list.proofs.list.Tie as tie
 
 read-session-requires : tie.Need-read-session-requires
 read-session-requires c κs = search needs
