@@ -90,7 +90,7 @@ fn configuration_numbers(configuration: Configuration) -> [u32; 1]
 }
 
 // The numbers of a session.
-fn session_numbers(session: Session) -> [u32; SESSION_WIDTH]
+pub fn session_numbers(session: Session) -> [u32; SESSION_WIDTH]
     ensures { λ r. ⌜ Encoding session r ⌝ }
 {
     let stage = session.stage;

@@ -7,7 +7,6 @@ ghost use lib.ListN.{length, take};
 ghost use Rattle.replay_lines.specs.Digits.{ascii, decimal, hexDigit, hexOf};
 ghost use Rattle.replay_lines.specs.Lines.{echoText, recordLine, addressBytes, lastLine};
 ghost use Rattle.replay_lines.specs.Output.{Wrote, asOutput, appended};
-use session_answers::Outcome;
 use session_state::Jump;
 use session_state::Refusal;
 use session_state::Stage;
@@ -151,7 +150,7 @@ fn put_stopped(line: &mut [u8], refusal: Refusal) -> usize
     ensures { λ r. ⌜ Wrote (now (line .entry)) (now (line .exit)) (lastLine (Stage.Stopped refusal)) r 64 ⌝ }
 {
     let feed = put_byte(line, 64, b'\n');
-    let number = session_answers::outcome_number(Outcome::Stops(refusal));
+    let number = session_answers::refusal_number(refusal);
     let digits = put_decimal(line, feed, number as u64);
     put_bytes(line, digits, b"end stopped ")
 }

@@ -11,8 +11,8 @@ use Rattle.replay_lines.proofs.Laws.{further, decimal-length}
 put-byte-requires : tie.Need-put-byte-requires
 put-byte-requires c κs = search needs
 
-outcome-number-requires : tie.Need-outcome-number-requires
-outcome-number-requires c κs = search needs
+refusal-number-requires : tie.Need-refusal-number-requires
+refusal-number-requires c κs = search needs
 
 cast-put-decimal : tie.Need-cast-put-decimal
 cast-put-decimal c = search needs
@@ -26,7 +26,7 @@ slice-aggregate-put-bytes c = search needs
 put-bytes-requires : tie.Need-put-bytes-requires
 put-bytes-requires c κs =
     let digits = c .before .before .before .before in
-    let number = digits .before .before .outcome-number .result in
+    let number = digits .before .before .refusal-number .result in
     (omega (arith, digits .put-decimal .ensures, decimal-length 19 number), omega arith)
 
 same-length : tie.Need-same-length
@@ -36,11 +36,11 @@ returns : tie.Need-returns
 returns c =
     let words = c .before .before in
     let digits = words .before .before .before .before .before in
-    let outcome = digits .before .before in
-    let feed = outcome .before .before .before in
+    let refusal = digits .before .before in
+    let feed = refusal .before .before .before in
     let start = feed .before .before .before in
     let joined = append-assoc (ascii "end stopped ") (decimal (refusalNumber (start .args .refusal))) (ascii "\n") in
-    rw (joined, ← outcome .outcome-number .ensures)
+    rw (joined, ← refusal .refusal-number .ensures)
     (further (omega arith) (further (omega arith) (feed .put-byte .ensures) (digits .put-decimal .ensures)) (words .put-bytes .ensures))
 
 pub put-stopped-spec : {M : Type 1} → statement M
@@ -48,7 +48,7 @@ put-stopped-spec =
     tie.close
     (tie.spec
     put-byte-requires
-    outcome-number-requires
+    refusal-number-requires
     cast-put-decimal
     put-decimal-requires
     slice-aggregate-put-bytes
