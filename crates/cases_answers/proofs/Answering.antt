@@ -1,5 +1,6 @@
 -- The numbers that the rules give, row by row.
 use Prim.Native.Nat.{ℕ, _-_}
+use native.Mathlib.Omega.{arith}
 use mathlib.Core.Path.{_≡_, refl, sym, _∙_}
 use mathlib.Core.List.{List}
 use mathlib.Core.Bool.{Bool, true, false, cond, _&&_, and-eq-true-iff, true≢false, false≢true}
@@ -222,3 +223,30 @@ module _ (session : Session) (sram : List ℕ) (item : Item) where
   leaves true true false r t = rw (t .0, t .1, t .2)
   leaves true false c r t = rw (t .0, t .1)
   leaves false b c r t = rw (t .0)
+
+  -- 5 is given only for the last byte of a load
+  pub jumps : (port : Port) (load : Load) → session .stage ≡ Stage.Data port load → (a b c counts last : Bool)
+      → rightSize (session .configuration) sram ≡ a
+      → sound session ≡ b
+      → wellFormed item ≡ c
+      → countsAs (Role.Data load) port item ≡ counts
+      → eqb (length (bytesOf item)) (load .owed) ≡ last
+      → numberDue session sram item ≡ 5
+      → step session sram item .answer .outcome ≡ Outcome.Jumps (jumpOf load)
+  unfolding step takenAs precheck reaction transition loaded
+  jumps port load s true true true true true e f g h i five = rw (e, f, g, s, h, i)
+  jumps port load s true true true true false e f g h i five =
+      let other : _≡_ {A = ℕ} 0 5 = rw (e, f, g, s, h, i) at five in
+      absurd (omega (arith, other))
+  jumps port load s true true true false last e f g h i five =
+      let other : _≡_ {A = ℕ} 1 5 = rw (e, f, g, s, h) at five in
+      absurd (omega (arith, other))
+  jumps port load s true true false counts last e f g h i five =
+      let other : _≡_ {A = ℕ} 6 5 = rw (e, f, g) at five in
+      absurd (omega (arith, other))
+  jumps port load s true false c counts last e f g h i five =
+      let other : _≡_ {A = ℕ} 8 5 = rw (e, f) at five in
+      absurd (omega (arith, other))
+  jumps port load s false b c counts last e f g h i five =
+      let other : _≡_ {A = ℕ} 7 5 = rw e at five in
+      absurd (omega (arith, other))

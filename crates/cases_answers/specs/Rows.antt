@@ -9,6 +9,7 @@ use lib.ListN.{length}
 use Rattle.password.specs.Passing.{passes}
 use Rattle.sram.specs.Region.{rightSize}
 use Rattle.session_state.specs.declared.Load.{Load}
+use Rattle.session_state.specs.declared.Port.{Port}
 use Rattle.session_state.specs.declared.Session.{Session}
 use Rattle.session_state.specs.declared.Stage.{Stage}
 use Rattle.session_state.specs.Sound.{sound}
@@ -81,7 +82,8 @@ stageAfter (Outcome.Stops refusal) stage = Stage.Stopped refusal
 stageAfter (Outcome.Jumps jump) stage = Stage.Jumped jump
 stageAfter (Outcome.Refused fault) stage = stage
 
--- "Each is given exactly in its row's case. Only 0 and 5 may change SRAM.", and what the rows return and leave
+-- "Each is given exactly in its row's case. Only 0 and 5 may change SRAM.", and of what the rows return and leave: what changes nothing, the
+-- echoes, the jump, and the stages of 2 to 5
 pub record RowsHold : Type 0 where
   pub exactly : (session : Session) (sram : List ℕ) (item : Item)
       → step session sram item .number ≡ numberDue session sram item
@@ -93,6 +95,11 @@ pub record RowsHold : Type 0 where
   -- 0 and 2 to 5: "echo"
   pub echoed : (session : Session) (sram : List ℕ) (item : Item) → changesNothing (numberDue session sram item) ≡ false
       → step session sram item .answer .echo ≡ echoUnder (echoedUnder item) (bytesOf item)
+  -- 5: "jump address, VLE", which are the load's
+  pub jumps : (session : Session) (sram : List ℕ) (item : Item) (port : Port) (load : Load)
+      → session .stage ≡ Stage.Data port load
+      → numberDue session sram item ≡ 5
+      → step session sram item .answer .outcome ≡ Outcome.Jumps (record { start = load .start; vle = load .vle })
   pub leaves : (session : Session) (sram : List ℕ) (item : Item)
       → stageAfter (step session sram item .answer .outcome) (step session sram item .session .stage)
       ≡ step session sram item .session .stage

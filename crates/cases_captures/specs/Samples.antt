@@ -1,4 +1,4 @@
--- Captures and their texts: 01's own ("The truck's capture file"), and one for each of its other sentences about the text.
+-- Captures and their texts: 01's own ("The truck's capture file"), and others for its other sentences about the text.
 use Prim.Native.Nat.{ℕ}
 use mathlib.Core.List.{List, [], _∷_, _++_}
 use lib.ListN.{replicate}
@@ -21,6 +21,10 @@ opened = frameOf8 0x11 (0xFE ∷ 0xED ∷ 0xFA ∷ 0xCE ∷ 0xCA ∷ 0xFE ∷ 0x
 abbrev announced : List ℕ
 announced = opened ++ frameOf8 0x12 (0x40 ∷ 0x00 ∷ 0x00 ∷ 0x00 ∷ 0x00 ∷ 0x00 ∷ 0x00 ∷ 0x01 ∷ [])
 
+-- a reset
+abbrev reset : List ℕ
+reset = 0x00 ∷ 0x02 ∷ 0x01 ∷ 0x04 ∷ []
+
 abbrev loaded : List ℕ
 loaded = announced ++ 0x00 ∷ 0x05 ∷ 0x01 ∷ 0x01 ∷ 0x00 ∷ 0x13 ∷ 0xA5 ∷ []
 
@@ -32,7 +36,12 @@ sampleTable =
     -- "An empty capture gives "end waiting" alone."
     ∷ trial (textOf []) (ascii "end waiting\n")
     -- "Reset prints 0 and "-"."
-    ∷ trial (textOf (0x00 ∷ 0x02 ∷ 0x01 ∷ 0x04 ∷ [])) (ascii "1 0 -\nend waiting\n")
+    ∷ trial (textOf reset) (ascii "1 0 -\nend waiting\n")
+    -- "A reset is a new boot choice": a session that a wrong password stopped opens again, and stops at a header of length 0
+    ∷ trial (textOf (frameOf8 0x11 (replicate 8 0x11) ++ reset ++ opened ++ frameOf8 0x12 (replicate 8 0)))
+    (ascii "1 2 1111111111111111\n2 0 -\n3 0 FEEDFACECAFEBEEF\n4 3 0000000000000000\nend stopped 3\n")
+    -- "Kind .. 3 a faulty serial byte": ignored; and a record that is cut
+    ∷ trial (textOf (0x00 ∷ 0x03 ∷ 0x01 ∷ 0x03 ∷ 0xFE ∷ 0x00 ∷ 0x03 ∷ 0x01 ∷ 0x02 ∷ [])) (ascii "1 1 -\n2 10 -\nend waiting\n")
     -- "A 10 prints its line with "-" and ends the reading.": here for identifier 2,048, with a reset behind it
     ∷ trial (textOf (0x00 ∷ 0x04 ∷ 0x01 ∷ 0x01 ∷ 0x08 ∷ 0x00 ∷ 0x00 ∷ 0x02 ∷ 0x01 ∷ 0x04 ∷ []))
     (ascii "1 10 -\nend waiting\n")

@@ -123,6 +123,8 @@ listTable =
     -- nothing is stored with the header
     ∷ trial (runOf (take 7 jumping) .sram) (filledWith 0xEE)
     ∷ trial (numbersOf (runOf lacking)) ((1 ∷ 1 ∷ 0 ∷ 1 ∷ []) ++ replicate 16 0 ++ (6 ∷ 1 ∷ []))
+    -- serial echoes the byte under no identifier
+    ∷ trial (echoesOf (runOf (take 5 lacking))) (nothing ∷ nothing ∷ (0 ∷ 0xFE ∷ []) ∷ nothing ∷ (0 ∷ 0xED ∷ []) ∷ [])
     ∷ trial (jumpsIn (runOf lacking .calls)) []
     ∷ trial (complete public (plainOf public lacking)) false
     ∷ trial (runOf lacking .session .stage)

@@ -37,23 +37,23 @@ public = askedFor publicPassword
 abbrev pub filledWith : ℕ → List ℕ
 filledWith byte = replicate (size public) byte
 
--- a CAN session that waits for the header, the header handed in, and the stage and the number after it
+-- a CAN session that waits for the header, the header handed in, and the number and the stage after it
 abbrev atHeader : Session
 atHeader = record { configuration = public; stage = Stage.Header Port.Can; held = replicate 8 0; count = 0 }
 
 abbrev headed : List ℕ → Result
 headed header = step atHeader (filledWith 0) (Item.Of (Source.Can 0x012) header)
 
-abbrev stageOf : List ℕ → Stage
-stageOf header = headed header .session .stage
-
 abbrev numberAfter : List ℕ → ℕ
 numberAfter header = headed header .number
 
--- the data stage of an accepted header
-abbrev accepted : ℕ → Bool → ℕ → Stage
+abbrev answered : List ℕ → ℕ × Stage
+answered header = (numberAfter header, headed header .session .stage)
+
+-- a header accepted: number 0, and the data stage
+abbrev accepted : ℕ → Bool → ℕ → ℕ × Stage
 accepted start vle count =
-    Stage.Data Port.Can (record { start = record { 0 = start }; vle = vle; next = start; owed = count })
+    (0, Stage.Data Port.Can (record { start = record { 0 = start }; vle = vle; next = start; owed = count }))
 
 -- passwords with half word 0000 and FFFF, and the number that one gets where it is the selected one too
 abbrev halfWord0000 : List ℕ
@@ -79,20 +79,20 @@ internalBoot flash = bootChoice 0 flash (replicate 12 0) (replicate 8 0) .answer
 unfoldable pub table : List Case
 table =
     -- P1 "header 40 00 00 00 80 00 14 00: start 0x40000000, VLE, 5,120 bytes"
-    trial (stageOf (0x40 ∷ 0x00 ∷ 0x00 ∷ 0x00 ∷ 0x80 ∷ 0x00 ∷ 0x14 ∷ 0x00 ∷ []))
+    trial (answered (0x40 ∷ 0x00 ∷ 0x00 ∷ 0x00 ∷ 0x80 ∷ 0x00 ∷ 0x14 ∷ 0x00 ∷ []))
     (accepted 0x40000000 true 5120)
     -- P2 "length 65,536 at 0x40000000 accepted"
-    ∷ trial (stageOf (0x40 ∷ 0x00 ∷ 0x00 ∷ 0x00 ∷ 0x00 ∷ 0x01 ∷ 0x00 ∷ 0x00 ∷ []))
+    ∷ trial (answered (0x40 ∷ 0x00 ∷ 0x00 ∷ 0x00 ∷ 0x00 ∷ 0x01 ∷ 0x00 ∷ 0x00 ∷ []))
     (accepted 0x40000000 false 65536)
     -- P3 "65,537: 4"
     ∷ trial (numberAfter (0x40 ∷ 0x00 ∷ 0x00 ∷ 0x00 ∷ 0x00 ∷ 0x01 ∷ 0x00 ∷ 0x01 ∷ [])) 4
     -- P4 "start 0x4000FFFC length 4 accepted"
-    ∷ trial (stageOf (0x40 ∷ 0x00 ∷ 0xFF ∷ 0xFC ∷ 0x00 ∷ 0x00 ∷ 0x00 ∷ 0x04 ∷ []))
+    ∷ trial (answered (0x40 ∷ 0x00 ∷ 0xFF ∷ 0xFC ∷ 0x00 ∷ 0x00 ∷ 0x00 ∷ 0x04 ∷ []))
     (accepted 0x4000FFFC false 4)
     -- P5 "length 5: 4"
     ∷ trial (numberAfter (0x40 ∷ 0x00 ∷ 0xFF ∷ 0xFC ∷ 0x00 ∷ 0x00 ∷ 0x00 ∷ 0x05 ∷ [])) 4
     -- P6 "start 0x40000003 becomes 0x40000000"
-    ∷ trial (stageOf (0x40 ∷ 0x00 ∷ 0x00 ∷ 0x03 ∷ 0x00 ∷ 0x00 ∷ 0x00 ∷ 0x01 ∷ []))
+    ∷ trial (answered (0x40 ∷ 0x00 ∷ 0x00 ∷ 0x03 ∷ 0x00 ∷ 0x00 ∷ 0x00 ∷ 0x01 ∷ []))
     (accepted 0x40000000 false 1)
     -- P7 "start 0x3FFFFFFF length 1: 4"
     ∷ trial (numberAfter (0x3F ∷ 0xFF ∷ 0xFF ∷ 0xFF ∷ 0x00 ∷ 0x00 ∷ 0x00 ∷ 0x01 ∷ [])) 4
@@ -128,7 +128,7 @@ table =
     }))
     -- "Slips we have seen": half word FFFF in both places; the low address bits dropped before the range test
     ∷ trial (numberOpening halfWordFFFF) 2
-    ∷ trial (stageOf (0x40 ∷ 0x00 ∷ 0x00 ∷ 0x03 ∷ 0x00 ∷ 0x01 ∷ 0x00 ∷ 0x00 ∷ []))
+    ∷ trial (answered (0x40 ∷ 0x00 ∷ 0x00 ∷ 0x03 ∷ 0x00 ∷ 0x01 ∷ 0x00 ∷ 0x00 ∷ []))
     (accepted 0x40000000 false 0x10000)
     -- P12 "5A as first byte: not good"
     ∷ trial (goodPlace (0x5A ∷ replicate 7 0) 0) false

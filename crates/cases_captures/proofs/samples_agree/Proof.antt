@@ -19,7 +19,7 @@ use Rattle.cases_captures.proofs.samples_agree.Tie as tie
 returns : tie.Need-returns
 unfolding
     sampleTable same passes validated size base inRange aligned stored sound sourceOf reaction precheck step takenAs transition passwordReceived checked headerReceived loaded sramAfter goodRecord headerFound recordStep handlingOf printingAfter printingOf textFrom
-returns c = (refl, (refl, (refl, (refl, (refl, (refl, (refl, (refl, tt))))))))
+returns c = (refl, (refl, (refl, (refl, (refl, (refl, (refl, (refl, (refl, (refl, tt))))))))))
 
 pub samples-agree-spec : {M : Type 1} → statement M
 samples-agree-spec = tie.close (tie.spec returns)
