@@ -2,12 +2,12 @@
 use Prim.Native.Nat.{ℕ, _+_, _-_, _≤_}
 use native.Mathlib.Omega.{arith}
 use mathlib.Core.Path.{_≡_}
-use mathlib.Core.List.{List, _++_, append-nil, append-assoc}
+use mathlib.Core.List.{List, append-nil, append-assoc}
 use borrow.Author.Tests.{le-leb}
 use borrow.Rule.Slice.PartMut.{midOf, putMid}
-use lib.ListN.{length, take, drop, length-drop, drop-of-length-le}
+use lib.ListN.{length, drop, length-drop, drop-of-length-le}
 use lib.Seq.{take-all, drop-drop}
-use Rattle.buffers.specs.Write.{filled}
+use Rattle.buffers.specs.Write.{overFrom, filled}
 
 -- what is lent, and the list with a part in its place
 abbrev pub lent : List ℕ → ℕ → List ℕ
@@ -17,7 +17,7 @@ abbrev pub back : List ℕ → ℕ → List ℕ → List ℕ
 back list at part = putMid at (length list - at) list part
 
 pub put-back : (list bytes : List ℕ) (at : ℕ) → at + length bytes ≤ length list
-    → back list at (filled bytes (lent list at)) ≡ take at list ++ bytes ++ drop (at + length bytes) list
+    → back list at (filled bytes (lent list at)) ≡ overFrom at bytes list
 unfolding filled
 put-back list bytes at room =
     let rest = drop at list in

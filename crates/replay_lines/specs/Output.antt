@@ -5,6 +5,7 @@ use mathlib.Core.List.{List, _++_}
 use mathlib.Core.Bool.{cond}
 use lib.ListN.{length, take, drop}
 use lib.Dec.{leb}
+use Rattle.buffers.specs.Write.{overFrom}
 
 -- text written in front of a position, its end: it is from a start up to that end, and all else is as it was
 pub record Wrote (before after text : List ℕ) (start end : ℕ) : Type 0 where
@@ -24,7 +25,7 @@ unfoldable pub appended : Output → List ℕ → Output
 appended out text =
     cond (leb (out .used + length text) (length (out .bytes)))
     (record {
-      bytes = take (out .used) (out .bytes) ++ text ++ drop (out .used + length text) (out .bytes);
+      bytes = overFrom (out .used) text (out .bytes);
       used = out .used + length text;
     })
     out

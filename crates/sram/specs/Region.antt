@@ -1,10 +1,11 @@
 -- SRAM, and bytes stored in it (01, "A serial session").
 use Prim.Native.Nat.{ℕ, _+_, _-_, _%_}
 use mathlib.Core.Path.{_≡_}
-use mathlib.Core.List.{List, _++_}
+use mathlib.Core.List.{List}
 use mathlib.Core.Bool.{Bool, cond, _&&_}
 use lib.ListN.{length, take, drop}
 use lib.Dec.{leb, eqb}
+use Rattle.buffers.specs.Write.{overFrom}
 use Rattle.session_configuration.specs.declared.Configuration.{Configuration}
 
 -- "SRAM is 65,536 bytes at 0x4000_0000.", whatever the session's configuration
@@ -28,8 +29,7 @@ aligned configuration address = eqb (address % 4) 0 && inRange configuration add
 
 -- "Data bytes are stored as they come, each at the next address": SRAM with bytes stored from an address on
 unfoldable pub stored : List ℕ → ℕ → List ℕ → List ℕ
-stored sram address bytes =
-    take (address - base) sram ++ bytes ++ drop (address - base + length bytes) sram
+stored sram address bytes = overFrom (address - base) bytes sram
 
 -- if the memory has not SRAM's size, or not all of the bytes are in range, none is stored
 unfoldable pub storedInRange : Configuration → List ℕ → ℕ → List ℕ → List ℕ
