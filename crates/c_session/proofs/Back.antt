@@ -23,7 +23,7 @@ use Rattle.c_session.specs.Writing.{sessionNumbers}
 use Rattle.c_session.specs.Reading.{numberAt, eightIn, portRead, refusalRead, stageRead, sessionRead, encodes, sessionIn, Encoding}
 
 -- numbers of which each is a byte
-abbrev Bytes : List ℕ → Type 0
+abbrev pub Bytes : List ℕ → Type 0
 Bytes l = (i : ℕ) → Fits w8 (getD l i 0)
 
 -- that the byte at a place is the one that is read of it
@@ -49,7 +49,7 @@ each-back l fit =
     (mod-eq-of-lt (fit 7 .fits))
 
 -- eight bytes are the bytes that are read of them
-eight-back : (l : List ℕ) → length l ≡ 8 → Bytes l → eightIn l 0 ≡ l
+pub eight-back : (l : List ℕ) → length l ≡ 8 → Bytes l → eightIn l 0 ≡ l
 eight-back l e fit = ext-getD 0 (eightIn l 0) l (sym e) (each-back l fit)
 
 flag-back : (flag : Bool) → eqb (bit flag) 1 ≡ flag

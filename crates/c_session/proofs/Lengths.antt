@@ -1,11 +1,10 @@
--- How many numbers there are, and that lists of other lengths are not the same.
+-- How many numbers there are.
 use Prim.Native.Nat.{ℕ, _+_}
 use native.Mathlib.Omega.{arith}
 use mathlib.Core.Path.{_≡_, refl, sym, ap, _∙_}
 use mathlib.Core.List.{List, _++_}
 use mathlib.Core.Bool.{Bool, true, false, cond, false≢true}
 use lib.ListN.{length}
-use Rattle.octets.specs.Same.{same}
 use Rattle.octets.proofs.Comparing.{same-equal}
 use Rattle.buffers.specs.Write.{filled}
 use Rattle.buffers.proofs.Lending.{fill-whole}
@@ -14,13 +13,6 @@ use Rattle.session_state.specs.declared.Stage.{Stage}
 use Rattle.session_state.specs.Sound.{sound}
 use Rattle.c_session.specs.Writing.{loadNumbers, configurationNumbers, sessionWidth, sessionNumbers}
 use Rattle.c_session.specs.Reading.{sessionRead, unsoundSession, encodes, sessionIn}
-
-untrue : (t : Bool) → (t ≡ true → ⊥) → t ≡ false
-untrue true h = absurd (h refl)
-untrue false h = refl
-
-pub same-length : (a b : List ℕ) → (length a ≡ length b → ⊥) → same a b ≡ false
-same-length a b h = untrue (same a b) (λ e. h (ap length (same-equal a b e)))
 
 load-length : (stage : Stage) (behind : List ℕ) → length (loadNumbers stage ++ behind) ≡ 5 + length behind
 load-length Stage.Waiting behind = omega arith

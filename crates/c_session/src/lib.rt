@@ -18,7 +18,7 @@ use sram::Aligned;
 pub const SESSION_WIDTH: usize = 25;
 
 // The number of a port.
-fn port_number(port: Port) -> u32
+pub fn port_number(port: Port) -> u32
     ensures { λ r. ⌜ r ≡ portNumber port ⌝ }
 {
     match port {
@@ -139,7 +139,7 @@ pub fn put_session(out: &mut [u32], session: Session)
 }
 
 // The number at a place, or 0 past the end.
-fn number_at(numbers: &[u32], at: usize) -> u32
+pub fn number_at(numbers: &[u32], at: usize) -> u32
     ensures { λ r. ⌜ r ≡ numberAt (now (numbers .entry)) at ⌝ }
 {
     if numbers.len() <= at {
@@ -149,7 +149,7 @@ fn number_at(numbers: &[u32], at: usize) -> u32
 }
 
 // The number at a place as a byte.
-fn byte_in(numbers: &[u32], at: usize) -> u8
+pub fn byte_in(numbers: &[u32], at: usize) -> u8
     ensures { λ r. ⌜ r ≡ byteIn (now (numbers .entry)) at ⌝ }
 {
     (number_at(numbers, at) % 256) as u8

@@ -1,7 +1,7 @@
--- Lists that are the same; and two lists from a place on: the next numbers are equal, or not, or none is left.
+-- Lists that are the same, and those of other lengths, which are not; and two lists from a place on: the next numbers are equal, or not, or none is left.
 use Prim.Native.Nat.{ℕ, _+_, _≤_, _<_}
 use native.Mathlib.Numerals.{add-one}
-use mathlib.Core.Path.{_≡_, refl}
+use mathlib.Core.Path.{_≡_, refl, ap}
 use mathlib.Core.List.{List, [], _∷_}
 use mathlib.Core.Bool.{true, false, false≢true, and-eq-true-iff}
 use borrow.Author.Tests.{eqb-true, eq-eqb, ne-eqb}
@@ -9,6 +9,7 @@ use lib.Dec.{eqb}
 use lib.ListN.{length, getD, drop, drop-of-length-le}
 use lib.Seq.{drop-cons}
 use Rattle.octets.specs.Same.{same}
+use Rattle.octets.proofs.Cases.{untrue}
 
 pub same-equal : (l m : List ℕ) → same l m ≡ true → l ≡ m
 unfolding same
@@ -23,6 +24,9 @@ pub same-own : (l : List ℕ) → same l l ≡ true
 unfolding same
 same-own [] = refl
 same-own (a ∷ l) = rw (eq-eqb a a refl, same-own l)
+
+pub same-length : (l m : List ℕ) → (length l ≡ length m → ⊥) → same l m ≡ false
+same-length l m h = untrue (same l m) (λ e. h (ap length (same-equal l m e)))
 
 module _ (a b : List ℕ) (i : ℕ) where
   pub same-on

@@ -37,7 +37,7 @@ pub fn is_formed(source: Source, bytes: &[u8]) -> bool
 }
 
 // The port of an item.
-fn port_of(source: Source) -> Port
+pub fn port_of(source: Source) -> Port
     ensures { λ r. ⌜ r ≡ portFrom source ⌝ }
 {
     match source {

@@ -6,9 +6,8 @@ use lib.ListN.{length, drop}
 use denote.Ref.{now}
 use borrow.Author.Needs.{needs}
 use Rattle.octets.specs.Same.{same}
-use Rattle.octets.proofs.Comparing.{same-on, same-differs, same-none}
+use Rattle.octets.proofs.Comparing.{same-length, same-on, same-differs, same-none}
 use Rattle.c_session.specs.Writing.{sessionWidth}
-use Rattle.c_session.proofs.Lengths.{same-length}
 use Rattle.c_session.proofs.is_same.Statement.{statement}
 use Rattle.c_session.proofs.is_same.Tie as tie
 
