@@ -2,24 +2,27 @@
  * The boot assist's C interface. Link target/staticlib/libboot_assist.a, which `rt staticlib boot_assist` writes for
  * x86-64 Linux.
  *
- * Every call answers for every value of its arguments: it returns a number of the table below, and a call
- * that returns 6 or above has written nothing. The caller's part is what C cannot say: each pointer is valid
- * for its length and not null, also where the length is 0, and no output overlaps another argument. NAME_len is
- * how many elements NAME has: bytes of a uint8_t list, numbers (not bytes) of a uint32_t or size_t list.
+ * Every call answers for every value of its arguments: it returns a number of the table below, and a call that
+ * returns 6 or above has written nothing (but for boot_assist_begin, which then leaves no load going where the
+ * sender has its numbers). The caller's part is what C cannot say: each pointer is valid for its length and not
+ * null, also where the length is 0, and no output overlaps another argument. NAME_len is how many elements NAME
+ * has: bytes of a uint8_t list, numbers (not bytes) of a uint32_t or size_t list.
  *
  *    0  answered; the item was taken
- *    1  the item was ignored
+ *    1  the item was ignored; of a sender: no load is going, or no item is out
  *    2  the 8th password byte is in, and the password did not pass: the session is stopped
- *    3  the header is complete, and its length is 0: the session is stopped
- *    4  the header is complete, and the load does not lie wholly in SRAM: the session is stopped
+ *    3  the header is complete, and its length is 0: the session is stopped; of a sender: the image has no bytes
+ *    4  the header is complete, and the load does not lie wholly in SRAM: the session is stopped; of a sender: the
+ *       image would not lie there
  *    5  the last byte is stored: the head jumps
  *    6  the frame's identifier is above 2047 or its count above 8; of a list: its parts do not fit each other
  *    7  SRAM is not 65536 bytes
- *    8  the session is not sound, or no session has these numbers, or they are not 25
- *    9  BOOTCFG, the flash, the shadow row or the external head is of a size that is not allowed;
- *       here also an output of another length (but for the session of an item or a list: 8, and the answers of a
- *       list: 6), a mode that is none of the numbers below, and for a fresh session a mode that is not serial or a
- *       password that is not 8 bytes
+ *    8  the session is not sound, or no session has these numbers, or they are not 25; of a sender that
+ *       is asked or told: its load is not sound, or its numbers are not 15
+ *    9  BOOTCFG, the flash, the shadow row or the external head is of a size that is not allowed; here also an
+ *       output of another length (but for the session of an item or a list and the sender that is asked or told:
+ *       8, and the answers of a list: 6), a mode or a port that is none of the numbers below, and for a fresh
+ *       session a mode that is not serial; a password that is not 8 bytes
  *   10  the capture's record is not whole or breaks its rules, or the starting place is past the end
  *   11  rows of external boot were asked for, of a choice or of a sound session, whatever the output's length
  */
@@ -224,6 +227,95 @@ uint8_t boot_assist_list(uint32_t *session, size_t session_len,
                          const uint32_t *counts, size_t counts_len,
                          const uint8_t *bytes, size_t bytes_len,
                          uint32_t *answers, size_t answers_len);
+
+/* The numbers of a sender, the truck's side of a load. Where a call leaves no load going, all are 0; where GOING is
+ * 0 the others are not looked at. In GOING, VLE and OUT a number above 1 is read as 1, in PORT as serial, and of a
+ * password byte the low 8 bits are read; a call that writes the sender writes what it read. */
+enum boot_assist_sender_number {
+    BOOT_ASSIST_SENDER_GOING = 0,         /* 1: a load is going */
+    BOOT_ASSIST_SENDER_PASSWORD = 1,      /* 8 bytes: the password that is sent */
+    BOOT_ASSIST_SENDER_PORT = 9,          /* a boot_assist_port */
+    BOOT_ASSIST_SENDER_START = 10,        /* the start address as given */
+    BOOT_ASSIST_SENDER_VLE = 11,          /* 1: VLE code */
+    BOOT_ASSIST_SENDER_IMAGE_LENGTH = 12, /* of the image that the load was begun with */
+    BOOT_ASSIST_SENDER_PLACE = 13,        /* how many bytes of password, header and image come before the item */
+    BOOT_ASSIST_SENDER_OUT = 14,          /* 1: the item has been asked for, and its echo not told yet */
+    BOOT_ASSIST_SENDER_LENGTH = 15
+};
+
+/*
+ * Begins a load, whatever the sender held before.
+ *
+ * port          a boot_assist_port
+ * start         the start address, sent as it is; the head drops its two lowest bits
+ * vle           0: not VLE code, any other number: VLE code
+ * password      8 bytes, sent as they are
+ * image         the bytes to load; they stay the caller's, and are handed in again with each call
+ * sender        BOOT_ASSIST_SENDER_LENGTH numbers, written
+ *
+ * Returns 0, and a load is going; or 9 for a sender of another length, which is not written; then 9 for a number that
+ * is no port or a password of another length, then 3, then 4, each of which leaves no load going.
+ */
+uint8_t boot_assist_begin(uint8_t port, uint32_t start, uint8_t vle,
+                          const uint8_t *password, size_t password_len,
+                          const uint8_t *image, size_t image_len,
+                          uint32_t *sender, size_t sender_len);
+
+/* The numbers of an item to send: a CAN frame, or a clean serial byte. */
+enum boot_assist_item {
+    BOOT_ASSIST_ITEM_PORT = 0,       /* a boot_assist_port */
+    BOOT_ASSIST_ITEM_IDENTIFIER = 1, /* CAN: 0x011, 0x012 or 0x013; serial: 0 */
+    BOOT_ASSIST_ITEM_COUNT = 2,      /* how many bytes it has: CAN 1 to 8, serial 1 */
+    BOOT_ASSIST_ITEM_BYTES = 3,      /* 8 bytes, of which the first COUNT are the item's; the others are 0 */
+    BOOT_ASSIST_ITEM_LENGTH = 11
+};
+
+/*
+ * Asks for the next item of the load. Asking again gives the same item, until its echo is told.
+ *
+ * sender        BOOT_ASSIST_SENDER_LENGTH numbers, as the last call left them; written
+ * image         the image that the load was begun with; of another one only another length is noticed
+ * item          BOOT_ASSIST_ITEM_LENGTH numbers, written
+ *
+ * Returns 0; or 8 for a sender of another length, then 1 with no load going, then 8 for a load that is not sound,
+ * then 9 for an item of another length. A load is sound unless its start and length would get 3 or 4, no item of it
+ * begins at its place (by CAN items begin at 0, 8, 16 and then every 8 bytes, by serial at every byte, and none
+ * behind the last), or the image has another length than the one that it was begun with. Where the number is not 0,
+ * nothing is written.
+ */
+uint8_t boot_assist_ask(uint32_t *sender, size_t sender_len,
+                        const uint8_t *image, size_t image_len,
+                        uint32_t *item, size_t item_len);
+
+/* What becomes of a load when the sender is told an echo. */
+enum boot_assist_verdict {
+    BOOT_ASSIST_VERDICT_GOES_ON = 0,  /* it was the item's echo: ask for the next */
+    BOOT_ASSIST_VERDICT_DONE = 1,     /* it was the last item's echo: a head that was fresh has the image, and jumps */
+    BOOT_ASSIST_VERDICT_ABANDONED = 2 /* it was another, or none */
+};
+
+/*
+ * Tells the sender the echo of the item that is out. The head must be fresh when a load is begun, and an abandoned
+ * load leaves it as it is. Without a reset a serial head takes and echoes the next load's bytes as the rest of the
+ * old one, so that even done does not mean that it has the image; a CAN head that has its password ignores the next
+ * load's, which is abandoned too. A head whose last echo was lost on the way has jumped, though its load is
+ * abandoned.
+ *
+ * sender, image as for asking; the sender is written, and done and abandoned leave it with no load
+ * port          a boot_assist_port: where the echo was heard
+ * identifier    of a CAN echo, any; of a serial one it is not looked at
+ * bytes         the bytes that were heard, of any length; if nothing came, of length 0, by either port
+ * verdict       written: a boot_assist_verdict
+ *
+ * Returns 0; or 8 for a sender of another length, then 1 with no load going, then 8 for a load that is not sound,
+ * then 1 with no item out, then 9 for a number that is no port. Where the number returned is not 0, nothing is
+ * written.
+ */
+uint8_t boot_assist_tell(uint32_t *sender, size_t sender_len,
+                         const uint8_t *image, size_t image_len,
+                         uint8_t port, uint32_t identifier,
+                         const uint8_t *bytes, size_t bytes_len,
+                         uint8_t *verdict);
 
 /* The numbers of a record. */
 enum boot_assist_record {

@@ -8,6 +8,7 @@ ghost use Rattle.c_choice.specs.Calls.{asChoiceReply, choiceAnswer, asFreshRepl
 ghost use Rattle.c_rows.specs.Calls.{asRowsReply, choiceRowsReply, sessionRowsReply};
 ghost use Rattle.c_items.specs.Calls.{asReply, itemReply};
 ghost use Rattle.c_list.specs.Calls.{listReply};
+ghost use Rattle.c_load.specs.Calls.{asBeginReply, replyToBegin, asAskReply, replyToAsk, asTellReply, replyToTell};
 
 // The boot choice.
 #[no_mangle]
@@ -102,6 +103,47 @@ pub extern "C" fn boot_assist_list(
         ⌝ }
 {
     c_list::list(session, sram, kinds, identifiers, counts, bytes, answers)
+}
+
+// Begins a load.
+#[no_mangle]
+pub extern "C" fn boot_assist_begin(
+    port: u8,
+    start: u32,
+    vle: u8,
+    password: &[u8],
+    image: &[u8],
+    sender: &mut [u32],
+) -> u8
+    ensures { λ r. ⌜ asBeginReply r (now (sender .exit)) ≡ replyToBegin port start vle (now (password .entry)) (now (image .entry)) (now (sender .entry)) ⌝ }
+{
+    c_load::begin(port, start, vle, password, image, sender)
+}
+
+// Asks for the next item of a load.
+#[no_mangle]
+pub extern "C" fn boot_assist_ask(sender: &mut [u32], image: &[u8], item: &mut [u32]) -> u8
+    ensures { λ r. ⌜ asAskReply r (now (sender .exit)) (now (item .exit)) ≡ replyToAsk (now (sender .entry)) (now (image .entry)) (now (item .entry)) ⌝ }
+{
+    c_load::ask(sender, image, item)
+}
+
+// Tells a sender what was heard.
+#[no_mangle]
+pub extern "C" fn boot_assist_tell(
+    sender: &mut [u32],
+    image: &[u8],
+    port: u8,
+    identifier: u32,
+    bytes: &[u8],
+    verdict: &mut u8,
+) -> u8
+    ensures { λ r. ⌜
+        asTellReply r (now (sender .exit)) (now (verdict .exit))
+        ≡ replyToTell (now (sender .entry)) (now (image .entry)) port identifier (now (bytes .entry)) (now (verdict .entry))
+        ⌝ }
+{
+    c_load::tell(sender, image, port, identifier, bytes, verdict)
 }
 
 // The record at a place of a capture.
