@@ -3,6 +3,12 @@
 //! Nothing checks these declarations against the library: they repeat
 //! include/boot_assist.h.
 
+use std::ptr;
+use std::slice;
+
+/// The verdict, and bytes behind it that are not lent.
+pub type Verdict = [u8; 8];
+
 extern "C" {
     fn boot_assist_choice(
         bootcfg: u8,
@@ -75,6 +81,39 @@ extern "C" {
         answers_len: usize,
     ) -> u8;
 
+    fn boot_assist_begin(
+        port: u8,
+        start: u32,
+        vle: u8,
+        password: *const u8,
+        password_len: usize,
+        image: *const u8,
+        image_len: usize,
+        sender: *mut u32,
+        sender_len: usize,
+    ) -> u8;
+
+    fn boot_assist_ask(
+        sender: *mut u32,
+        sender_len: usize,
+        image: *const u8,
+        image_len: usize,
+        item: *mut u32,
+        item_len: usize,
+    ) -> u8;
+
+    fn boot_assist_tell(
+        sender: *mut u32,
+        sender_len: usize,
+        image: *const u8,
+        image_len: usize,
+        port: u8,
+        identifier: u32,
+        bytes: *const u8,
+        bytes_len: usize,
+        verdict: *mut u8,
+    ) -> u8;
+
     fn boot_assist_read(
         capture: *const u8,
         capture_len: usize,
@@ -82,6 +121,9 @@ extern "C" {
         fields: *mut usize,
         fields_len: usize,
     ) -> u8;
+
+    /// Of the C library, for images of lengths that no memory holds.
+    fn mmap(at: *mut u8, length: usize, access: i32, kind: i32, file: i32, from: i64) -> *mut u8;
 }
 
 pub fn choice(
@@ -208,6 +250,86 @@ pub fn list(
             answers.as_mut_ptr(),
             answers.len(),
         )
+    }
+}
+
+/// The password and the image are only read; they are lent so that a write to them would
+/// be seen.
+pub fn begin(
+    port: u8,
+    start: u32,
+    vle: u8,
+    password: &mut [u8],
+    image: &mut [u8],
+    sender: &mut [u32],
+) -> u8 {
+    // SAFETY: as above.
+    unsafe {
+        boot_assist_begin(
+            port,
+            start,
+            vle,
+            password.as_mut_ptr(),
+            password.len(),
+            image.as_mut_ptr(),
+            image.len(),
+            sender.as_mut_ptr(),
+            sender.len(),
+        )
+    }
+}
+
+/// The image is only read, as above.
+pub fn ask(sender: &mut [u32], image: &mut [u8], item: &mut [u32]) -> u8 {
+    // SAFETY: as above.
+    unsafe {
+        boot_assist_ask(
+            sender.as_mut_ptr(),
+            sender.len(),
+            image.as_mut_ptr(),
+            image.len(),
+            item.as_mut_ptr(),
+            item.len(),
+        )
+    }
+}
+
+/// The image and the bytes are only read, as above.
+pub fn tell(
+    sender: &mut [u32],
+    image: &mut [u8],
+    port: u8,
+    identifier: u32,
+    bytes: &mut [u8],
+    verdict: &mut Verdict,
+) -> u8 {
+    // SAFETY: as above.
+    unsafe {
+        boot_assist_tell(
+            sender.as_mut_ptr(),
+            sender.len(),
+            image.as_mut_ptr(),
+            image.len(),
+            port,
+            identifier,
+            bytes.as_mut_ptr(),
+            bytes.len(),
+            verdict.as_mut_ptr(),
+        )
+    }
+}
+
+/// So many bytes 00, which take no memory as long as they are not read. A write to them
+/// ends the program.
+pub fn zeros(length: usize) -> &'static mut [u8] {
+    const PROT_READ: i32 = 1;
+    // MAP_PRIVATE, MAP_ANONYMOUS and MAP_NORESERVE.
+    const KIND: i32 = 0x2 | 0x20 | 0x4000;
+    // SAFETY: the mapping is a new one that nothing else names, and it stays.
+    unsafe {
+        let start = mmap(ptr::null_mut(), length, PROT_READ, KIND, -1, 0);
+        assert!(start.addr() != usize::MAX, "no room for {length} addresses");
+        slice::from_raw_parts_mut(start, length)
     }
 }
 

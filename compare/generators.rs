@@ -114,7 +114,7 @@ impl Maker {
         (0..count).map(|_| self.random.byte()).collect()
     }
 
-    fn octets(&mut self) -> [u8; 8] {
+    pub fn octets(&mut self) -> [u8; 8] {
         array::from_fn(|_| self.random.byte())
     }
 
@@ -140,7 +140,7 @@ impl Maker {
     }
 
     /// One half word, or two, made 0000 or FFFF.
-    fn illegal(&mut self, mut password: [u8; 8]) -> [u8; 8] {
+    pub fn illegal(&mut self, mut password: [u8; 8]) -> [u8; 8] {
         for _ in 0..self.random.pick(&[1, 1, 1, 2]) {
             let at = 2 * self.random.below(4);
             password[at..at + 2].fill(self.random.pick(&[0x00, 0xFF]));

@@ -3,10 +3,10 @@
 //! rows of the session that it left.
 
 use crate::c_numbers::{
-    answer_name, entered_of, only, row, session_name, table, table_name, Head, Row, ANSWER,
-    ENTERED, JUMP, JUMP_VLE, PORT, SESSION, STAGE, TABLE, VLE,
+    answer_name, entered_of, only, port_number, row, session_name, table, table_name, Head, Row,
+    ANSWER, ENTERED, JUMP, JUMP_VLE, PORT, SESSION, STAGE, TABLE, VLE,
 };
-use crate::differences::{hex, line};
+use crate::differences::{hex, line, number_lines};
 use crate::random::Random;
 use crate::{foreign, Among, Tally};
 use reference::mmu::{self, session_rows};
@@ -652,14 +652,6 @@ impl<'a> Harness<'a> {
     }
 }
 
-/// In the order of boot_assist_port.
-fn port_number(port: Port) -> usize {
-    match port {
-        Port::Can => 0,
-        Port::Serial => 1,
-    }
-}
-
 /// The kind of boot_assist_kind, as in a capture, and the data or the byte.
 pub fn kind_and_bytes(item: &Item) -> (u8, &[u8]) {
     match item {
@@ -763,18 +755,6 @@ fn side_by_side(other: &str, ours: &Side, expected: &Side) -> String {
         text += &row_lines(other, ours.answer, expected.answer);
     }
     text + &sram_lines(&ours.kept.sram, &expected.kept.sram)
-}
-
-/// A line for each of the first numbers, as many as `shown`, and for others that differ.
-fn number_lines(ours: &[u32], expected: &[u32], shown: usize, name: fn(usize) -> String) -> String {
-    let mut text = String::new();
-    for (index, (ours, expected)) in ours.iter().zip(expected).enumerate() {
-        if index < shown || ours != expected {
-            let [ours, expected] = [ours, expected].map(|number| format!("{number:#x}"));
-            text += &line(&name(index), &ours, &expected);
-        }
-    }
-    text
 }
 
 fn row_lines(other: &str, ours: &[u32], expected: &[u32]) -> String {

@@ -1,8 +1,9 @@
 //! Hands the same inputs to the library and to the reference, and compares the
-//! answers: `compare [SEED] [COUNT] [LISTS] [CAPTURES]`, with COUNT random boot inputs,
-//! LISTS random lists of session items and as many random sessions, and CAPTURES random
+//! answers: `compare [SEED] [COUNT] [LISTS] [CAPTURES] [SENDERS]`, with COUNT random boot
+//! inputs, LISTS random lists of session items and as many random sessions, CAPTURES random
 //! captures, for which the program target/bin/replay, or the one that the environment's
-//! REPLAY names, is run.
+//! REPLAY names, is run, and SENDERS random senders, as many of their beginnings and runs,
+//! and some whole loads.
 
 mod boot;
 mod c_numbers;
@@ -15,6 +16,11 @@ mod random;
 mod replay;
 mod replay_captures;
 mod replay_program;
+mod sender;
+mod sender_generators;
+mod sender_harness;
+mod sender_images;
+mod sender_loads;
 mod session;
 mod session_exchanges;
 mod vectors;
@@ -30,12 +36,14 @@ const SEED: u64 = 0x5A55_AAFE_EDFA_CE01;
 const COUNT: u64 = 40_000;
 const LISTS: u64 = 60_000;
 const CAPTURES: u64 = 24_000;
+const SENDERS: u64 = 120_000;
 
 fn main() -> ExitCode {
-    let [seed, count, lists, captures] = match arguments() {
+    let [seed, count, lists, captures, senders] = match arguments() {
         Ok(arguments) => arguments,
         Err(message) => {
-            eprintln!("compare: {message}\nusage: compare [SEED] [COUNT] [LISTS] [CAPTURES]");
+            let usage = "compare [SEED] [COUNT] [LISTS] [CAPTURES] [SENDERS]";
+            eprintln!("compare: {message}\nusage: {usage}");
             return ExitCode::from(2);
         }
     };
@@ -55,7 +63,10 @@ fn main() -> ExitCode {
         let random = Random::new(seed.swap_bytes());
         let replay =
             scope.spawn(|| tallied(|tally| replay::run(random, captures, &program, tally)));
-        [boot, session, replay].map(|part| part.join().expect("a comparison that did not panic"))
+        let random = Random::new(!seed.swap_bytes());
+        let sender = scope.spawn(|| tallied(|tally| sender::run(random, senders, tally)));
+        [boot, session, replay, sender]
+            .map(|part| part.join().expect("a comparison that did not panic"))
     });
     let mut tally = Tally::default();
     for (part, compared) in parts {
@@ -86,10 +97,10 @@ fn tallied(run: impl FnOnce(&mut Tally) -> Result<(), String>) -> (Tally, Result
     (tally, compared)
 }
 
-fn arguments() -> Result<[u64; 4], String> {
+fn arguments() -> Result<[u64; 5], String> {
     let arguments: Vec<_> = env::args_os().skip(1).collect();
-    if arguments.len() > 4 {
-        return Err(format!("{} arguments, at most 4 expected", arguments.len()));
+    if arguments.len() > 5 {
+        return Err(format!("{} arguments, at most 5 expected", arguments.len()));
     }
     let number = |index: usize, name: &str, default: u64| match arguments.get(index) {
         None => Ok(default),
@@ -102,6 +113,7 @@ fn arguments() -> Result<[u64; 4], String> {
         number(1, "COUNT", COUNT)?,
         number(2, "LISTS", LISTS)?,
         number(3, "CAPTURES", CAPTURES)?,
+        number(4, "SENDERS", SENDERS)?,
     ])
 }
 

@@ -23,7 +23,7 @@ pub struct Exchange {
     /// The session after them.
     pub after: [u32; SESSION],
     /// What SRAM has after them, from its first byte on.
-    loaded: Vec<u8>,
+    pub loaded: Vec<u8>,
 }
 
 const SERIAL_DIRECTLY: u8 = 2;

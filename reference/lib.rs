@@ -1,7 +1,8 @@
-//! A second implementation of the boot assist, written from the papers (document 01,
-//! source documents 000, 002 and 003). It is kept apart from the proved code and shares
-//! no code with it; it exists so that the two can be handed the same inputs and their
-//! answers compared. docs/DECISIONS.md, 23 and 56, says what it was given beside the papers.
+//! A second implementation of the boot assist, written from the papers (documents 01 and
+//! 02, of the latter E1, the truck's side; source documents 000, 002 and 003). It is kept
+//! apart from the proved code and shares no code with it; it exists so that the two can be
+//! handed the same inputs and their answers compared. docs/DECISIONS.md, 23, 56 and 67, says
+//! what it was given beside the papers.
 
 #![forbid(unsafe_code)]
 
@@ -10,4 +11,5 @@ pub mod capture;
 pub mod merging;
 pub mod mmu;
 pub mod replay;
+pub mod sender;
 pub mod session;
