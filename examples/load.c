@@ -3,69 +3,70 @@
  *
  *     load PORT START IMAGE
  *
- * PORT is can or serial, START the start address in hex. The head has chosen serial boot with the public password.
- * The items are first written as a capture, then each record is read and handed in. Exit status: 0 the head jumped,
- * and its SRAM holds the image; 1 it did not; 2 an argument or a file is bad.
+ * PORT is can or serial, START the start address in hex; the VLE bit is sent as 1. The head has chosen serial boot with
+ * the public password.
+ * The sender is asked for each item, the item is handed to the head, and the sender is told the head's echo. Exit
+ * status: 0 the head jumped, and its SRAM holds the image; 1 it did not, or the sender refused the image (its number is
+ * printed); 2 an argument or a file is bad.
  */
-#include <stdio.h>
-#include <stdlib.h>
-#include <string.h>
-
-#include "boot_assist.h"
+#define _POSIX_C_SOURCE 200809L
+#include "line.h"
 
 #define SRAM_LENGTH 65536
 #define SRAM_START 0x40000000u
 
+static const char *const verdicts[] = {"goes on", "done", "abandoned"};
 static const uint8_t password[8] = {0xFE, 0xED, 0xFA, 0xCE, 0xCA, 0xFE, 0xBE, 0xEF};
+/* One byte more than SRAM has: what is longer still is refused with the same number. */
 static uint8_t image[SRAM_LENGTH + 1];
 static uint8_t sram[SRAM_LENGTH];
-static uint8_t capture[8 * (SRAM_LENGTH + 32)];
-static size_t capture_len;
 
-/* A record of a CAN frame. */
-static void put_frame(uint16_t identifier, const uint8_t *data, size_t len)
+/* The bytes of an item or of an echo, which the library writes as one number each. */
+static void to_bytes(const uint32_t *numbers, uint8_t bytes[8])
 {
-    const uint8_t head[6] = {0, (uint8_t)(4 + len), 1, BOOT_ASSIST_KIND_FRAME, (uint8_t)(identifier >> 8), (uint8_t)identifier};
-    memcpy(capture + capture_len, head, sizeof head);
-    memcpy(capture + capture_len + sizeof head, data, len);
-    capture_len += sizeof head + len;
+    for (int i = 0; i < 8; i++)
+        bytes[i] = (uint8_t)numbers[i];
 }
 
-/* A record for each of several clean serial bytes. */
-static void put_bytes(const uint8_t *bytes, size_t len)
+/* Hands an item to the head, and returns the number of its answer. An item that is refused has no echo. */
+static uint8_t hand_in(uint32_t *session, const uint32_t *item, uint32_t *answer)
 {
-    for (size_t i = 0; i < len; i++) {
-        const uint8_t record[5] = {0, 3, 1, BOOT_ASSIST_KIND_CLEAN, bytes[i]};
-        memcpy(capture + capture_len, record, sizeof record);
-        capture_len += sizeof record;
-    }
-}
-
-/* The password, the header and the data, by CAN or by serial. */
-static void put_load(int can, const uint8_t header[8], size_t len)
-{
-    if (!can) {
-        put_bytes(password, 8);
-        put_bytes(header, 8);
-        put_bytes(image, len);
-        return;
-    }
-    put_frame(0x011, password, 8);
-    put_frame(0x012, header, 8);
-    for (size_t i = 0; i < len; i += 8)
-        put_frame(0x013, image + i, len - i < 8 ? len - i : 8);
-}
-
-/* Hands in one record, and returns the number of its answer. */
-static uint8_t hand_in(uint32_t *session, const size_t *record, uint32_t *answer)
-{
-    const uint8_t *body = capture + record[BOOT_ASSIST_RECORD_BODY_START];
-    size_t len = record[BOOT_ASSIST_RECORD_BODY_COUNT];
-    if (record[BOOT_ASSIST_RECORD_KIND] == BOOT_ASSIST_KIND_FRAME)
+    uint8_t bytes[8];
+    to_bytes(item + BOOT_ASSIST_ITEM_BYTES, bytes);
+    memset(answer, 0, BOOT_ASSIST_ANSWER_LENGTH * sizeof *answer);
+    if (item[BOOT_ASSIST_ITEM_PORT] == BOOT_ASSIST_PORT_CAN)
         return boot_assist_frame(session, BOOT_ASSIST_SESSION_LENGTH, sram, SRAM_LENGTH,
-                                 (uint32_t)body[0] << 8 | body[1], body + 2, len - 2, answer, BOOT_ASSIST_ANSWER_LENGTH);
-    return boot_assist_byte(session, BOOT_ASSIST_SESSION_LENGTH, sram, SRAM_LENGTH, body[0],
-                            record[BOOT_ASSIST_RECORD_KIND] == BOOT_ASSIST_KIND_FAULTY, answer, BOOT_ASSIST_ANSWER_LENGTH);
+                                 item[BOOT_ASSIST_ITEM_IDENTIFIER], bytes, item[BOOT_ASSIST_ITEM_COUNT],
+                                 answer, BOOT_ASSIST_ANSWER_LENGTH);
+    return boot_assist_byte(session, BOOT_ASSIST_SESSION_LENGTH, sram, SRAM_LENGTH, bytes[0], 0,
+                            answer, BOOT_ASSIST_ANSWER_LENGTH);
+}
+
+/* Tells the sender the echo, and returns its verdict; where it does not take the echo, the load is abandoned. */
+static uint8_t tell(uint32_t *sender, size_t len, uint8_t port, const uint32_t *answer)
+{
+    uint8_t bytes[8], verdict = BOOT_ASSIST_VERDICT_ABANDONED;
+    to_bytes(answer + BOOT_ASSIST_ANSWER_ECHO, bytes);
+    boot_assist_tell(sender, BOOT_ASSIST_SENDER_LENGTH, image, len, port, answer[BOOT_ASSIST_ANSWER_ECHO_IDENTIFIER],
+                     bytes, answer[BOOT_ASSIST_ANSWER_ECHO_LENGTH], &verdict);
+    return verdict;
+}
+
+/* Sends the load to a fresh head, and returns the number of the last answer. */
+static uint8_t send_load(uint32_t *sender, size_t len, uint32_t *session, uint32_t *answer)
+{
+    uint32_t item[BOOT_ASSIST_ITEM_LENGTH];
+    uint8_t number = 0, verdict = BOOT_ASSIST_VERDICT_GOES_ON;
+    size_t items = 0;
+    boot_assist_session(BOOT_ASSIST_MODE_SERIAL_DIRECTLY, password, 8, session, BOOT_ASSIST_SESSION_LENGTH);
+    while (verdict == BOOT_ASSIST_VERDICT_GOES_ON &&
+           boot_assist_ask(sender, BOOT_ASSIST_SENDER_LENGTH, image, len, item, BOOT_ASSIST_ITEM_LENGTH) == 0) {
+        number = hand_in(session, item, answer);
+        verdict = tell(sender, len, (uint8_t)item[BOOT_ASSIST_ITEM_PORT], answer);
+        items++;
+    }
+    printf("items     %zu\nnumber    %u\nverdict   %s\n", items, number, verdicts[verdict]);
+    return number;
 }
 
 /* The VLE of the session's MMU rows, entries 0 to 4. */
@@ -82,34 +83,32 @@ static void show_vle(const uint32_t *session)
 
 int main(int argc, char **argv)
 {
-    FILE *file = argc == 4 ? fopen(argv[3], "rb") : NULL;
-    if (file == NULL || (strcmp(argv[1], "can") != 0 && strcmp(argv[1], "serial") != 0)) {
+    int port = argc == 4 ? line_port(argv[1]) : -1;
+    int64_t start = argc == 4 ? line_number(argv[2], 16) : -1;
+    if (port < 0 || start < 0) {
         fprintf(stderr, "usage: load can|serial START IMAGE\n");
         return 2;
     }
-    uint32_t start = (uint32_t)strtoul(argv[2], NULL, 16);
-    size_t len = fread(image, 1, sizeof image, file);
-    fclose(file);
-    if (len > SRAM_LENGTH) {
-        fprintf(stderr, "load: the image has more than %d bytes\n", SRAM_LENGTH);
+    FILE *file = fopen(argv[3], "rb");
+    if (file == NULL) {
+        perror(argv[3]);
         return 2;
     }
-    const uint8_t header[8] = {(uint8_t)(start >> 24), (uint8_t)(start >> 16), (uint8_t)(start >> 8), (uint8_t)start,
-                               0x80, (uint8_t)(len >> 16), (uint8_t)(len >> 8), (uint8_t)len};
-    put_load(strcmp(argv[1], "can") == 0, header, len);
-
-    uint32_t session[BOOT_ASSIST_SESSION_LENGTH], answer[BOOT_ASSIST_ANSWER_LENGTH];
-    boot_assist_session(BOOT_ASSIST_MODE_SERIAL_DIRECTLY, password, 8, session, BOOT_ASSIST_SESSION_LENGTH);
-    size_t record[BOOT_ASSIST_RECORD_LENGTH] = {0}, at = 0, items = 0;
-    uint8_t number = 0;
-    while (number == 0 && boot_assist_read(capture, capture_len, at, record, BOOT_ASSIST_RECORD_LENGTH) == 0 &&
-           record[BOOT_ASSIST_RECORD_KIND] != BOOT_ASSIST_KIND_END) {
-        number = hand_in(session, record, answer);
-        at = record[BOOT_ASSIST_RECORD_NEXT];
-        items++;
+    size_t len = fread(image, 1, sizeof image, file);
+    if (ferror(file)) {
+        perror(argv[3]);
+        return 2;
     }
-    printf("items     %zu\nnumber    %u\n", items, number);
-    if (number != 5)
+    fclose(file);
+
+    uint32_t sender[BOOT_ASSIST_SENDER_LENGTH], session[BOOT_ASSIST_SESSION_LENGTH], answer[BOOT_ASSIST_ANSWER_LENGTH];
+    uint8_t number = boot_assist_begin((uint8_t)port, (uint32_t)start, 1, password, 8, image, len,
+                                       sender, BOOT_ASSIST_SENDER_LENGTH);
+    if (number != 0) {
+        printf("sender    refuses the image: number %u\n", number);
+        return 1;
+    }
+    if (send_load(sender, len, session, answer) != 5)
         return 1;
     uint32_t jump = answer[BOOT_ASSIST_ANSWER_JUMP];
     int held = memcmp(sram + (jump - SRAM_START), image, len) == 0;
