@@ -1,3 +1,4 @@
 pub mod Past
 pub mod Comparing
 pub mod Cases
+pub mod Taking

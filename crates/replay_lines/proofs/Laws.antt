@@ -1,12 +1,11 @@
 -- Text written in front of a position: nothing, one byte, several, one text in front of another; and the digits of numbers and bytes.
-use Prim.Native.Nat.{ℕ, zero, suc, _+_, _-_, _*_, _/_, _≤_, _<_, min}
+use Prim.Native.Nat.{ℕ, zero, suc, _+_, _-_, _*_, _/_, _≤_, _<_}
 use native.Mathlib.Numerals.{add-one}
-use native.Mathlib.Nat.{min-eq-left, min-eq-right}
 use native.Mathlib.Omega.{arith}
 use mathlib.Core.Path.{_≡_, refl, sym, ap, _∙_}
 use mathlib.Core.List.{List, [], _∷_, _++_, append-nil, append-assoc}
 use mathlib.Core.Bool.{Bool, true, false, cond, _&&_, and-true, and-eq-true-iff}
-use borrow.Author.Tests.{le-leb, lt-leb, lt-ltb, leb-true, leb-false, ltb-true}
+use borrow.Author.Tests.{le-leb, lt-leb, lt-ltb, leb-true, ltb-true}
 use lib.Dec.{leb, ltb}
 use lib.ListN.{length, take, drop, getD, set, length-append, length-drop, take-append-drop, drop-of-length-le}
 use lib.Seq.{take-all, take-take, take-append-le, take-at, drop-at, drop-append-add, drop-drop, drop-cons, length-take-le, set-split, append-snoc}
@@ -222,18 +221,6 @@ last-part {line} {next} {text} {start} long wrote =
     let many = length-take-le start line (omega (arith, wrote .ends, long)) in
     rw (wrote .leaves, gone, append-nil (take start line ++ text), drop-at (take start line) text start many)
     (take-all (64 - start) text (omega (arith, wrote .ends)))
-
--- so many of eight bytes
-pub least-taken : (bytes : List ℕ) (count : ℕ) → length bytes ≡ 8 → take (min count 8) bytes ≡ take count bytes
-least-taken bytes count eight = by-test (leb count 8) refl
-  where
-    by-test : (t : Bool) → leb count 8 ≡ t → take (min count 8) bytes ≡ take count bytes
-    by-test true e = ap (λ (n : ℕ). take n bytes) (min-eq-left (leb-true count 8 e))
-    by-test false e =
-        let above = leb-false count 8 e in
-        ap (λ (n : ℕ). take n bytes) (min-eq-right {n = 8} {m = count} (omega arith))
-        ∙ take-all 8 bytes (omega arith)
-        ∙ sym (take-all count bytes (omega arith))
 
 -- How long the lines are.
 pub record-length : (ordinal answer : ℕ) (echo : List ℕ) → length echo ≤ 8 → length (recordLine ordinal answer echo) ≤ 59

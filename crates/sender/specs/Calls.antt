@@ -12,10 +12,11 @@ use Rattle.header.specs.Reading.{validated}
 use Rattle.session_items.specs.declared.Source.{Source}
 use Rattle.session_answers.specs.Answers.{refusalNumber}
 use Rattle.sender_header.specs.Writing.{headerMeant}
+use Rattle.sender_echo.specs.Hearing.{isEcho}
 use Rattle.sender_load.specs.declared.Sender.{Sender}
 use Rattle.sender_load.specs.declared.Sent.{Sent}
 use Rattle.sender_load.specs.Items.{width, sentFrom, sentAt, standing, nextPlace, soundLoad}
-use Rattle.sender_load.specs.Echoes.{echoDue, isEcho}
+use Rattle.sender_load.specs.Echoes.{echoDue}
 use Rattle.sender.specs.declared.AskResult.{AskResult}
 use Rattle.sender.specs.declared.AskAnswer.{AskAnswer}
 use Rattle.sender.specs.declared.BeginResult.{BeginResult}

@@ -224,7 +224,7 @@ pub fn tell(sender: Sender, image: &[u8], port: Port, identifier: u32, bytes: &[
     }
     let own = sender.port;
     let due = sender_load::echo_due(sender, image);
-    if sender_load::is_echo(own, due, port, identifier, bytes) {
+    if sender_echo::is_echo(own, due, port, identifier, bytes) {
         return move_on(sender, image);
     }
     result_of(TellAnswer::Says(Verdict::Abandoned), no_load())

@@ -8,6 +8,7 @@ use borrow.Author.Tests.{ltb-true, leb-true, leb-false, eqb-true}
 use lib.Dec.{leb, ltb, eqb}
 use lib.ListN.{length, take, length-take}
 use lib.Seq.{take-all}
+use Rattle.octets.proofs.Taking.{take-least}
 use Rattle.session_configuration.specs.declared.Configuration.{Configuration}
 use Rattle.session_state.specs.declared.Port.{Port}
 use Rattle.session_state.specs.declared.Refusal.{Refusal}
@@ -19,17 +20,7 @@ use Rattle.sender_header.proofs.Laws.{too-long}
 use Rattle.sender_load.specs.declared.Sender.{Sender}
 use Rattle.sender_load.specs.Items.{width, loadHeader, atItem, soundLoad}
 
--- as many bytes as there are, and no more than a number, are the first of that number
-take-least : (count : ℕ) (list : List ℕ) (b : Bool) → leb count (length list) ≡ b → take (min count (length list)) list ≡ take count list
-take-least count list true e =
-    let enough = leb-true count (length list) e in
-    let all : min count (length list) ≡ count = omega arith in
-    rw all
-take-least count list false e =
-    let few = leb-false count (length list) e in
-    let all : min count (length list) ≡ length list = omega arith in
-    rw (all, take-all (length list) list (omega arith), take-all count list (omega arith))
-
+-- an item has at most 8 bytes, and no more than there are
 pub few-bytes : (port : Port) → width port ≤ 8
 few-bytes Port.Can = omega arith
 few-bytes Port.Serial = omega arith
@@ -38,13 +29,7 @@ pub cut : (port : Port) (list : List ℕ) → take 8 (take (min (width port) (le
 cut port list =
     let first = take (min (width port) (length list)) list in
     take-all 8 first (omega (arith, length-take (min (width port) (length list)) list, few-bytes port))
-    ∙ take-least (width port) list (leb (width port) (length list)) refl
-
--- of a list of 8 bytes
-pub first-of-eight : (count : ℕ) (list : List ℕ) → length list ≡ 8 → take (min 8 count) list ≡ take count list
-first-of-eight count list eight =
-    let same : min 8 count ≡ min count (length list) = omega arith in
-    rw same (take-least count list (leb count (length list)) refl)
+    ∙ take-least (width port) (length list) list refl
 
 -- what is judged to fit is what fits
 abbrev pub isFit : Validated → Bool

@@ -1,11 +1,10 @@
 // A load that is being sent (02, E1): its items, their echoes, and when it is sound.
 ghost use mathlib.Core.Path.{_≡_};
 ghost use lib.ListN.{take, drop};
-ghost use Rattle.octets.specs.Same.{same};
 ghost use Rattle.header.specs.Reading.{fits};
 ghost use Rattle.session_answers.specs.Answers.{echoOf};
 ghost use Rattle.sender_load.specs.Items.{width, loadHeader, roleAt, identifierFor, sourceBy, sentAt, atItem, beginsItem, soundLoad};
-ghost use Rattle.sender_load.specs.Echoes.{echoDue, heardUnder, isEcho};
+ghost use Rattle.sender_load.specs.Echoes.{echoDue};
 use header::Validated;
 use session_answers::Echo;
 use session_configuration::Configuration;
@@ -178,44 +177,4 @@ pub fn is_sound(sender: Sender, image: &[u8]) -> bool
     ensures { λ r. ⌜ r ≡ soundLoad sender (now (image .entry)) ⌝ }
 {
     does_header_fit(sender) & does_item_begin(sender) & (image.len() == sender.length as usize)
-}
-
-// Whether an echo heard at a port is that of the load's port, under the identifier due.
-fn is_heard_under(port: Port, heard: Port, due: u32, identifier: u32) -> bool
-    ensures { λ r. ⌜ r ≡ heardUnder port heard due identifier ⌝ }
-{
-    match port {
-        Port::Can => match heard {
-            Port::Can => identifier == due,
-            Port::Serial => false,
-        },
-        Port::Serial => match heard {
-            Port::Can => false,
-            Port::Serial => true,
-        },
-    }
-}
-
-// Whether two lists have the same bytes.
-fn is_same(a: &[u8], b: &[u8]) -> bool
-    ensures { λ r. ⌜ r ≡ same (now (a .entry)) (now (b .entry)) ⌝ }
-{
-    if a.len() != b.len() {
-        return false;
-    }
-    for i in 0..a.len() {
-        if a[i] != b[i] {
-            return false;
-        }
-    }
-    true
-}
-
-// Whether what is heard is the echo due.
-pub fn is_echo(port: Port, due: Echo, heard: Port, identifier: u32, bytes: &[u8]) -> bool
-    ensures { λ r. ⌜ r ≡ isEcho port due heard identifier (now (bytes .entry)) ⌝ }
-{
-    let expected = due.bytes;
-    let count = octets::least(8, due.length as usize);
-    is_heard_under(port, heard, due.identifier, identifier) & is_same(bytes, &expected[..count])
 }

@@ -27,9 +27,10 @@ use Rattle.session_answers.proofs.Laws.{Accepted}
 use Rattle.session.specs.Rules.{step}
 use Rattle.session.proofs.Laws.{step-ignores}
 use Rattle.sender_header.specs.Writing.{headerWritten}
+use Rattle.sender_echo.specs.Hearing.{heardUnder, isEcho}
 use Rattle.sender_load.specs.declared.Sender.{Sender}
 use Rattle.sender_load.specs.Items.{width, sourceBy, sentAt, along, atItem}
-use Rattle.sender_load.specs.Echoes.{echoDue, heardUnder, isEcho}
+use Rattle.sender_load.specs.Echoes.{echoDue}
 use Rattle.sender_load.proofs.Laws.{few-bytes}
 use Rattle.sender.specs.declared.AskAnswer.{AskAnswer}
 use Rattle.sender.specs.declared.TellAnswer.{TellAnswer}

@@ -14,9 +14,10 @@ use Rattle.session_answers.specs.declared.Echo.{Echo}
 use Rattle.session_answers.specs.declared.Outcome.{Outcome}
 use Rattle.session_answers.specs.Answers.{withoutEcho, unchanged}
 use Rattle.session.specs.Rules.{step}
+use Rattle.sender_echo.specs.Hearing.{isEcho}
 use Rattle.sender_load.specs.declared.Sender.{Sender}
 use Rattle.sender_load.specs.Items.{width, roleAt, part, sentAt, standing, nextPlace, soundLoad}
-use Rattle.sender_load.specs.Echoes.{echoDue, isEcho}
+use Rattle.sender_load.specs.Echoes.{echoDue}
 use Rattle.sender.specs.declared.AskAnswer.{AskAnswer}
 use Rattle.sender.specs.declared.AskResult.{AskResult}
 use Rattle.sender.specs.declared.TellAnswer.{TellAnswer}

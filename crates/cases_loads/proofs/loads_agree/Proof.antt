@@ -3,8 +3,8 @@ use mathlib.Core.Path.{refl}
 use Rattle.octets.specs.Same.{same}
 use Rattle.sram.specs.Region.{size, base, inRange}
 use Rattle.header.specs.Reading.{validated}
+use Rattle.sender_echo.specs.Hearing.{isEcho}
 use Rattle.sender_load.specs.Items.{part, along, pieces, soundLoad}
-use Rattle.sender_load.specs.Echoes.{isEcho}
 use Rattle.sender.specs.Calls.{loadBegun, asked, told}
 use Rattle.cases_loads.specs.Loads.{loadTable}
 use Rattle.cases_loads.proofs.loads_agree.Statement.{statement}

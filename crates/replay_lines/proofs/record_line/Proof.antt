@@ -5,11 +5,12 @@ use Prim.Native.Nat.{ℕ, _-_, min}
 use mathlib.Core.Path.{_≡_, ap, _∙_}
 use lib.ListN.{take}
 use denote.Ref.{now}
+use Rattle.octets.proofs.Taking.{take-least}
 use Rattle.replay_lines.proofs.record_line.Statement.{statement}
 use Rattle.replay_lines.proofs.record_line.Tie as tie
 use Rattle.replay_lines.specs.Lines.{recordLine}
 use Rattle.replay_lines.specs.Output.{asOutput, appended}
-use Rattle.replay_lines.proofs.Laws.{last-part, least-taken}
+use Rattle.replay_lines.proofs.Laws.{last-part}
 
 least-requires : tie.Need-least-requires
 least-requires c κs = search needs
@@ -51,7 +52,7 @@ returns c =
     let a = least .before .before .args in
     let written = last-part (omega arith) (put .put-record .ensures) in
     let shown : least .least .result - 0 ≡ min (a .count) 8 = omega (arith, least .least .ensures) in
-    let echo = ap (λ (n : ℕ). take n (a .t5)) shown ∙ least-taken (a .t5) (a .count) (search needs) in
+    let echo = ap (λ (n : ℕ). take n (a .t5)) shown ∙ take-least (a .count) 8 (a .t5) (search needs) in
     c .before .before .append .ensures
     ∙ ap (appended (asOutput (now (a .out)) (a .used))) (written ∙ ap (recordLine (a .ordinal) (a .answer)) echo)
 

@@ -1,4 +1,4 @@
--- `sender_load::is_same` meets its contract: other lengths differ; with i bytes found equal, the two are the same when the rests are.
+-- `sender_echo::is_same` meets its contract: other lengths differ; with i bytes found equal, the two are the same when the rests are.
 use Prim.Native.Nat.{_≤_, _-_}
 use native.Mathlib.Omega.{arith}
 use mathlib.Core.Path.{_≡_, refl, sym, _∙_}
@@ -6,8 +6,8 @@ use lib.ListN.{length, drop}
 use denote.Ref.{now}
 use Rattle.octets.specs.Same.{same}
 use Rattle.octets.proofs.Comparing.{same-length, same-on, same-differs, same-none}
-use Rattle.sender_load.proofs.is_same.Statement.{statement}
-use Rattle.sender_load.proofs.is_same.Tie as tie
+use Rattle.sender_echo.proofs.is_same.Statement.{statement}
+use Rattle.sender_echo.proofs.is_same.Tie as tie
 
 abbrev Inv-loop : tie.InvT-loop
 Inv-loop a b i₀ i-end i = (i ≤ length a) × (length a ≡ length b) × (same a b ≡ same (drop i a) (drop i b))

@@ -1,7 +1,7 @@
--- `sender_load::is_heard_under` meets its contract: each pair of ports is a case of the definition.
+-- `sender_echo::is_heard_under` meets its contract: each pair of ports is a case of the definition.
 use borrow.Author.Needs.{needs}
-use Rattle.sender_load.proofs.is_heard_under.Statement.{statement}
-use Rattle.sender_load.proofs.is_heard_under.Tie as tie
+use Rattle.sender_echo.proofs.is_heard_under.Statement.{statement}
+use Rattle.sender_echo.proofs.is_heard_under.Tie as tie
 
 enum-told : tie.Need-enum-told
 enum-told c = search needs

@@ -1,13 +1,13 @@
--- `sender_load::is_echo` meets its contract.
+-- `sender_echo::is_echo` meets its contract.
 use native.Mathlib.Omega.{arith}
 use mathlib.Core.Path.{_≡_, sym}
 use lib.ListN.{length}
 use lib.Seq.{length-take-le}
-use Rattle.sender_load.specs.Echoes.{isEcho}
-use Rattle.sender_load.proofs.Laws.{first-of-eight}
+use Rattle.octets.proofs.Taking.{take-least}
+use Rattle.sender_echo.specs.Hearing.{isEcho}
 use borrow.Author.Needs.{needs}
-use Rattle.sender_load.proofs.is_echo.Statement.{statement}
-use Rattle.sender_load.proofs.is_echo.Tie as tie
+use Rattle.sender_echo.proofs.is_echo.Statement.{statement}
+use Rattle.sender_echo.proofs.is_echo.Tie as tie
 
 -- an echo has 8 places
 eight : (c : tie.Start) → length (c .args .due .bytes) ≡ 8
@@ -44,7 +44,7 @@ returns c =
       c .is-same .ensures,
       c .before .before .is-heard-under .ensures,
       c .before .before .before .least .ensures,
-      first-of-eight (due .length) (due .bytes) (eight start),
+      take-least (due .length) 8 (due .bytes) (eight start),
     )
 
 pub is-echo-spec : {M : Type 1} → statement M
