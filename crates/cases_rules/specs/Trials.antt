@@ -65,16 +65,31 @@ halfWordFFFF = 0xFE ∷ 0xED ∷ 0xFA ∷ 0xCE ∷ 0xCA ∷ 0xFE ∷ 0xFF ∷ 0x
 abbrev numberOpening : List ℕ → ℕ
 numberOpening password = step (freshSession (askedFor password)) (filledWith 0) (Item.Of (Source.Can 0x011) password) .number
 
--- a flash that ends with the last place's 8 bytes: zeroes, and zeroes but for 0x5A as the second byte of one place
-abbrev blank : List ℕ
-blank = replicate 0x30008 0
+-- the largest flash: zeroes, and zeroes but for 0x5A as the second byte of one place
+abbrev pub blank : List ℕ
+blank = replicate 2097152 0
 
-abbrev with5A : ℕ → List ℕ
-with5A place = replicate (place + 1) 0 ++ 0x5A ∷ replicate (0x30006 - place) 0
+abbrev pub with5A : ℕ → List ℕ
+with5A place = replicate (place + 1) 0 ++ 0x5A ∷ replicate (2097150 - place) 0
 
 -- internal boot of a flash, with a shadow row and an external head of zeroes
-abbrev internalBoot : List ℕ → Answer
+abbrev pub internalBoot : List ℕ → Answer
 internalBoot flash = bootChoice 0 flash (replicate 12 0) (replicate 8 0) .answer
+
+-- what such a boot answers: how, from which place, and how many were looked at; all else that is read there is 0, and the row is the first
+abbrev pub boots : Mode → ℕ → ℕ → Answer
+boots mode place examined =
+    Answer.Boots
+    (record {
+      mode = mode;
+      place = place;
+      examined = examined;
+      jump = 0;
+      watchdog = false;
+      bus16 = false;
+      flash = true;
+      nexus = false;
+    })
 
 unfoldable pub table : List Case
 table =
@@ -102,30 +117,10 @@ table =
     ∷ trial (numberOpening halfWord0000) 2
     -- P10 "5A only at 0x1C000: 4 places"
     ∷ trial (internalBoot (with5A 0x1C000))
-    (Answer.Boots
-    (record {
-      mode = Mode.Internal;
-      place = 0x1C000;
-      examined = 4;
-      jump = 0;
-      watchdog = false;
-      bus16 = false;
-      flash = true;
-      nexus = false;
-    }))
+    (boots Mode.Internal 0x1C000 4)
     -- P11 "none: 6, serial"
     ∷ trial (internalBoot blank)
-    (Answer.Boots
-    (record {
-      mode = Mode.Serial Entered.FromInternal;
-      place = 0;
-      examined = 6;
-      jump = 0;
-      watchdog = false;
-      bus16 = false;
-      flash = true;
-      nexus = false;
-    }))
+    (boots (Mode.Serial Entered.FromInternal) 0 6)
     -- "Slips we have seen": half word FFFF in both places; the low address bits dropped before the range test
     ∷ trial (numberOpening halfWordFFFF) 2
     ∷ trial (answered (0x40 ∷ 0x00 ∷ 0x00 ∷ 0x03 ∷ 0x00 ∷ 0x01 ∷ 0x00 ∷ 0x00 ∷ []))
