@@ -228,8 +228,8 @@ uint8_t boot_assist_list(uint32_t *session, size_t session_len,
                          const uint8_t *bytes, size_t bytes_len,
                          uint32_t *answers, size_t answers_len);
 
-/* The numbers of a sender, the truck's side of a load. Where a call leaves no load going, all are 0; where GOING is
- * 0 the others are not looked at. In GOING, VLE and OUT a number above 1 is read as 1, in PORT as serial, and of a
+/* The numbers of a sender, the truck's side of a load. A call that ends a load, or refuses to begin one, writes 0 for
+ * all; where GOING is 0 the others are not looked at. In GOING, VLE and OUT a number above 1 is read as 1, in PORT as serial, and of a
  * password byte the low 8 bits are read; a call that writes the sender writes what it read. */
 enum boot_assist_sender_number {
     BOOT_ASSIST_SENDER_GOING = 0,         /* 1: a load is going */
@@ -290,16 +290,17 @@ uint8_t boot_assist_ask(uint32_t *sender, size_t sender_len,
 /* What becomes of a load when the sender is told an echo. */
 enum boot_assist_verdict {
     BOOT_ASSIST_VERDICT_GOES_ON = 0,  /* it was the item's echo: ask for the next */
-    BOOT_ASSIST_VERDICT_DONE = 1,     /* it was the last item's echo: a head that was fresh has the image, and jumps */
+    BOOT_ASSIST_VERDICT_DONE = 1,     /* it was the last item's: on a clean line a fresh head has the image, and jumps */
     BOOT_ASSIST_VERDICT_ABANDONED = 2 /* it was another, or none */
 };
 
 /*
  * Tells the sender the echo of the item that is out. The head must be fresh when a load is begun, and an abandoned
- * load leaves it as it is. Without a reset a serial head takes and echoes the next load's bytes as the rest of the
- * old one, so that even done does not mean that it has the image; a CAN head that has its password ignores the next
- * load's, which is abandoned too. A head whose last echo was lost on the way has jumped, though its load is
- * abandoned.
+ * load leaves it as it is. Without a reset a serial head that has not stopped or jumped takes and echoes the next
+ * load's bytes as the rest of the old one, so that even done does not mean that it has the image; a CAN head that has
+ * its password ignores the next load's, which is abandoned too. A head whose last echo was lost on the way has
+ * jumped, though its load is abandoned. An echo tells what its bytes are and not which item they were sent for: where
+ * one is lost and another doubled, done can be said of a head that is still owed bytes.
  *
  * sender, image as for asking; the sender is written, and done and abandoned leave it with no load
  * port          a boot_assist_port: where the echo was heard

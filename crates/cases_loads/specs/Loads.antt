@@ -10,12 +10,11 @@ use Rattle.session_items.specs.declared.Source.{Source}
 use Rattle.session_items.specs.Items.{Item}
 use Rattle.session_answers.specs.declared.Echo.{Echo}
 use Rattle.sender_load.specs.declared.Sender.{Sender}
-use Rattle.sender_load.specs.Items.{sentAt, itemOf, standing, along, itemsOf, soundLoad}
+use Rattle.sender_load.specs.Items.{sentAt, itemOf, standing, along, itemsOf, beginningAt, soundLoad}
 use Rattle.sender_load.specs.Echoes.{echoesOf}
-use Rattle.sender.specs.declared.AskAnswer.{AskAnswer}
 use Rattle.sender.specs.declared.TellAnswer.{TellAnswer}
 use Rattle.sender.specs.declared.Verdict.{Verdict}
-use Rattle.sender.specs.Calls.{begunNumber, newLoad, idle, loadBegun, asked, told}
+use Rattle.sender.specs.Calls.{begunNumber, askedNumber, toldNumber, newLoad, idle, loadBegun, asked, told}
 use Rattle.cases_rules.specs.Trials.{Case, trial}
 
 -- 11 bytes at 0x40000003, VLE: the header has the start as given
@@ -59,6 +58,17 @@ soundAt port place = soundLoad (standing (load port) place false) image
 abbrev outAt : Port → ℕ → Sender
 outAt port place = standing (load port) place true
 
+-- a load that is refusable
+abbrev refusable : Sender
+refusable = standing (newLoad Port.Can 0x3FFFFFFC true publicPassword 11) 0 true
+
+-- the numbers of asking, and of telling the echo of the password
+abbrev numberAsked : Sender → List ℕ → ℕ
+numberAsked sender given = askedNumber (asked sender given .answer)
+
+abbrev numberTold : Sender → List ℕ → ℕ
+numberTold sender given = toldNumber (told sender given Port.Can 0x001 publicPassword .answer)
+
 -- what is said of an echo heard by CAN, and by serial
 abbrev saidByCan : ℕ → ℕ → List ℕ → TellAnswer
 saidByCan place identifier heard = told (outAt Port.Can place) image Port.Can identifier heard .answer
@@ -89,13 +99,32 @@ loadTable =
     ∷ trial (map (numberFor 0x40000000) (0 ∷ 1 ∷ 65536 ∷ 65537 ∷ 0x80000000 ∷ 0x1_0000_0000 ∷ [])) (3 ∷ 0 ∷ 0 ∷ 4 ∷ 4 ∷ 4 ∷ [])
     ∷ trial (map (numberFor 0x4000FFFF) (4 ∷ 5 ∷ [])) (0 ∷ 4 ∷ [])
     ∷ trial (map (numberFor 0x3FFFFFFF) (0 ∷ 1 ∷ [])) (3 ∷ 4 ∷ [])
+    ∷ trial (loadBegun Port.Can 0x40000000 false publicPassword 0 .sender) idle
+    ∷ trial (loadBegun Port.Can 0x40000003 true publicPassword 11 .sender) (load Port.Can)
     -- where items begin; the image ends at place 27
+    ∷ trial (map (λ place. beginningAt place frames) (4 ∷ 24 ∷ 26 ∷ 27 ∷ 32 ∷ []))
+    ([] ∷ (Item.Of (Source.Can 0x013) (0x09 ∷ 0x0A ∷ 0x0B ∷ []) ∷ []) ∷ [] ∷ [] ∷ [] ∷ [])
     ∷ trial (map (soundAt Port.Can) (0 ∷ 4 ∷ 8 ∷ 16 ∷ 24 ∷ 26 ∷ 32 ∷ [])) (true ∷ false ∷ true ∷ true ∷ true ∷ false ∷ false ∷ [])
     ∷ trial (map (soundAt Port.Serial) (0 ∷ 4 ∷ 26 ∷ 27 ∷ [])) (true ∷ true ∷ true ∷ false ∷ [])
-    -- asking with no load going, with an image of another length, and for a load that is refusable
-    ∷ trial (asked idle image .answer) AskAnswer.Ignored
-    ∷ trial (asked (load Port.Can) (take 10 image) .answer) AskAnswer.Unsound
-    ∷ trial (asked (newLoad Port.Can 0x3FFFFFFC true publicPassword 11) image .answer) AskAnswer.Unsound
+    -- and no item behind a last frame of 8 bytes
+    ∷ trial (numberAsked (standing (newLoad Port.Can 0x40000000 true publicPassword 8) 24 false) (take 8 image)) 8
+    -- asking: the item, which is out then; and with no load going, at a place where no item begins, with an image of another length, and for
+    -- a load that is refusable
+    ∷ trial (numberAsked (load Port.Can) image) 0
+    ∷ trial (itemOf (asked (load Port.Serial) image .sent)) (Item.Of (Source.Serial 0) (0xFE ∷ []))
+    ∷ trial (asked (load Port.Serial) image .sender) (outAt Port.Serial 0)
+    ∷ trial (numberAsked idle image) 1
+    ∷ trial (numberAsked (outAt Port.Can 4) image) 8
+    ∷ trial (numberAsked (load Port.Can) (take 10 image)) 8
+    ∷ trial (numberAsked refusable image) 8
+    -- telling, likewise; and with no item out, but 8 comes first
+    ∷ trial (numberTold (outAt Port.Can 0) image) 0
+    ∷ trial (numberTold idle image) 1
+    ∷ trial (numberTold (outAt Port.Can 4) image) 8
+    ∷ trial (numberTold (outAt Port.Can 0) (take 10 image)) 8
+    ∷ trial (numberTold refusable image) 8
+    ∷ trial (numberTold (load Port.Can) image) 1
+    ∷ trial (numberTold (load Port.Can) (take 10 image)) 8
     -- the echo that is due, and others: another identifier, byte or length, none, that of the other port
     ∷ trial (saidByCan 24 0x003 (0x09 ∷ 0x0A ∷ 0x0B ∷ [])) (TellAnswer.Says Verdict.Done)
     ∷ trial (saidByCan 8 0x002 header) goesOn
@@ -117,12 +146,8 @@ loadTable =
     ∷ trial
     (told (standing (newLoad Port.Can 0x40000000 false publicPassword 8) 16 true) (take 8 image) Port.Can 0x003 (take 8 image) .answer)
     (TellAnswer.Says Verdict.Done)
-    -- with no load going; with an image of another length, also where no item is out
-    ∷ trial (told idle image Port.Can 0x001 publicPassword .answer) TellAnswer.Ignored
-    ∷ trial (told (load Port.Can) (take 10 image) Port.Can 0x001 publicPassword .answer) TellAnswer.Unsound
-    -- after an echo the next item has not been asked for, and telling gets 1; after done and abandoned no load is going
+    -- after an echo the next item has not been asked for; after done and abandoned no load is going
     ∷ trial (told (outAt Port.Can 0) image Port.Can 0x001 publicPassword .sender) (standing (load Port.Can) 8 false)
-    ∷ trial (told (load Port.Can) image Port.Can 0x001 publicPassword .answer) TellAnswer.Ignored
     ∷ trial (told (outAt Port.Can 24) image Port.Can 0x003 (0x09 ∷ 0x0A ∷ 0x0B ∷ []) .sender) idle
     ∷ trial (told (outAt Port.Can 24) image Port.Can 0x003 [] .sender) idle
     ∷ []

@@ -121,12 +121,12 @@ table =
     -- P11 "none: 6, serial"
     ∷ trial (internalBoot blank)
     (boots (Mode.Serial Entered.FromInternal) 0 6)
+    -- P12 "5A as first byte: not good"
+    ∷ trial (goodPlace (0x5A ∷ replicate 7 0) 0) false
     -- "Slips we have seen": half word FFFF in both places; the low address bits dropped before the range test
     ∷ trial (numberOpening halfWordFFFF) 2
     ∷ trial (answered (0x40 ∷ 0x00 ∷ 0x00 ∷ 0x03 ∷ 0x00 ∷ 0x01 ∷ 0x00 ∷ 0x00 ∷ []))
     (accepted 0x40000000 false 0x10000)
-    -- P12 "5A as first byte: not good"
-    ∷ trial (goodPlace (0x5A ∷ replicate 7 0) 0) false
     ∷ []
 
 -- the claim: in every case the rules give what 01 says

@@ -42,7 +42,8 @@ toldNumber (TellAnswer.Says verdict) = 0
 toldNumber TellAnswer.Ignored = 1
 toldNumber TellAnswer.Unsound = 8
 
--- Beginning. A load keeps the configuration of its head: the password that is sent; how serial boot was entered has no part in it.
+-- Beginning. A load keeps its head's configuration as far as the truck knows it: the password that is sent. How serial boot was entered has no
+-- part in it.
 abbrev pub headWith : List ℕ → Configuration
 headWith password = record { password = password; entered = Entered.Directly }
 

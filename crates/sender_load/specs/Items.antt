@@ -3,7 +3,7 @@
 use Prim.Native.Nat.{ℕ, zero, suc, _+_, _-_, _/_, _%_}
 use mathlib.Core.List.{List, [], _∷_, _++_, map}
 use mathlib.Core.Bool.{Bool, true, false, cond, _&&_}
-use lib.Dec.{ltb, eqb}
+use lib.Dec.{leb, ltb, eqb}
 use lib.ListN.{length, take, drop, replicate}
 use Rattle.buffers.specs.Write.{over}
 use Rattle.session_state.specs.declared.Load.{Load}
@@ -12,7 +12,7 @@ use Rattle.header.specs.declared.Header.{Header}
 use Rattle.header.specs.Reading.{fits}
 use Rattle.session_items.specs.declared.Role.{Role}
 use Rattle.session_items.specs.declared.Source.{Source}
-use Rattle.session_items.specs.Items.{Item}
+use Rattle.session_items.specs.Items.{Item, bytesOf}
 use Rattle.sender_header.specs.Writing.{headerWritten, headerMeant}
 use Rattle.sender_load.specs.declared.Sender.{Sender}
 use Rattle.sender_load.specs.declared.Sent.{Sent}
@@ -115,7 +115,7 @@ pieces zero size bytes = []
 pieces (suc count) size bytes = take size bytes ∷ pieces count size (drop size bytes)
 
 -- The items of a load as one list: by CAN a frame with the password, one with the header and one for each 8 bytes of the image; by serial a
--- byte each. The item at a place stands behind `place / width` others.
+-- byte each.
 abbrev pub loadItems : Port → List ℕ → List ℕ → List ℕ → List Item
 loadItems Port.Can password header image =
     Item.Of (Source.Can 0x011) password
@@ -127,6 +127,13 @@ loadItems Port.Serial password header image =
 abbrev pub itemsOf : Sender → List ℕ → List Item
 itemsOf sender image =
     loadItems (sender .port) (sentAs Role.Password sender image) (sentAs Role.Header sender image) image
+
+-- Where in such a list a place stands: the item that begins behind so many bytes, as a list of one, or of none where no item begins there.
+unfoldable pub beginningAt : ℕ → List Item → List Item
+beginningAt place [] = []
+beginningAt place (item ∷ items) =
+    cond (eqb place 0) (item ∷ [])
+    (cond (leb (length (bytesOf item)) place) (beginningAt (place - length (bytesOf item)) items) [])
 
 -- An item begins at the load's place: by CAN at every 8th byte, by serial at every byte, and none at the end or past it.
 abbrev pub atItem : Port → ℕ → Bool

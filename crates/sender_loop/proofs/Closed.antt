@@ -33,10 +33,10 @@ use Rattle.sender_loop.proofs.Items.{load-items}
 use Rattle.sender_loop.proofs.Load.{Reaches, Meant, Onward, onwards}
 
 -- how many items come before the last
-record LastItem (port : Port) (length : ℕ) : Type 0 where
-  before : ℕ
-  counts : itemCount port length ≡ suc before
-  reached : Reaches port (16 + length) before 0
+pub record LastItem (port : Port) (length : ℕ) : Type 0 where
+  pub before : ℕ
+  pub counts : itemCount port length ≡ suc before
+  pub reached : Reaches port (16 + length) before 0
 
 reaches-can : (end count place : ℕ) → place + 8 * count < end → end ≤ place + 8 * count + 8 → Reaches Port.Can end count place
 reaches-can end zero place h k = omega arith
@@ -46,15 +46,15 @@ reaches-serial : (end count place : ℕ) → place + count < end → end ≤ pla
 reaches-serial end zero place h k = omega arith
 reaches-serial end (suc count) place h k = (omega arith, reaches-serial end count (place + 1) (omega arith) (omega arith))
 
-before-last : (port : Port) (length : ℕ) → 1 ≤ length → LastItem port length
-before-last Port.Can length some =
+pub before-last : (port : Port) (length : ℕ) → LastItem port length
+before-last Port.Can length =
     let count = 1 + (length + 7) / 8 in
     record {
       before = count;
       counts = omega arith;
       reached = reaches-can (16 + length) count 0 (omega arith) (omega arith);
     }
-before-last Port.Serial length some =
+before-last Port.Serial length =
     record {
       before = 15 + length;
       counts = omega arith;
@@ -128,7 +128,7 @@ module _
 
   -- from its first place to its end
   abbrev first : LastItem port (length image)
-  first = before-last port (length image) (meant .some)
+  first = before-last port (length image)
 
   abbrev count : ℕ
   count = itemCount port (length image)
@@ -158,7 +158,7 @@ module _
         let one : count - 1 ≡ n = omega (arith, first .counts) in
         record {
           gave = rw (first .counts) (rw (first .counts) at (all .gave));
-          items = ap (map itemOf) (all .items) ∙ rw (← first .counts) (load-items start vle password image (line .eight) port);
+          items = ap (map itemOf) (all .items) ∙ rw (← first .counts) (load-items load image (line .eight));
           echoed = rw (first .counts) (rw (first .counts) at (all .echoed));
           answered = rw one (all .answered);
           said = rw one (all .said);
@@ -172,7 +172,7 @@ module _
         → Amid list loop (ran (freshSession configuration) sram list)
     amid eight list e =
         let merged = demand-three configuration sram list eight (line .fine) (line .right) in
-        let alone = rw (load-items start vle password image (line .eight) port ∙ sym e) at all in
+        let alone = rw (load-items load image (line .eight) ∙ sym e) at all in
         record {
           same-answers = ap (map (λ (call : Call). call .answer)) (merged .same-answers) ∙ alone .same-answers;
           others = merged .others;

@@ -3,10 +3,12 @@ use Rattle.sender_loop.specs.Loop.{EveryLoad}
 use Rattle.sender_loop.proofs.Turns.{asks-again}
 use Rattle.sender_loop.proofs.Closed.{passes-own, begins, delivered, amid}
 use Rattle.sender_loop.proofs.Refused.{turned-away}
+use Rattle.sender_loop.proofs.Places.{stands}
 
 pub closed-loop : EveryLoad
 closed-loop =
     record {
+      stands = stands;
       asks-again = asks-again;
       begins = begins;
       delivers =

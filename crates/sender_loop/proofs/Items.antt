@@ -4,17 +4,15 @@ use native.Mathlib.Nat.{zero-add, suc-add}
 use native.Mathlib.Omega.{arith}
 use mathlib.Core.Path.{_≡_, refl, sym, ap, _∙_}
 use mathlib.Core.List.{List, [], _∷_, _++_, map, append-assoc}
-use mathlib.Core.Bool.{Bool}
 use borrow.Author.Tests.{lt-ltb, le-ltb}
 use lib.ListN.{length, take, drop}
-use lib.Seq.{take-all, drop-drop}
+use lib.Seq.{take-all, take-at, drop-drop}
 use Rattle.session_state.specs.declared.Port.{Port}
 use Rattle.session_items.specs.declared.Role.{Role}
 use Rattle.session_items.specs.declared.Source.{Source}
 use Rattle.session_items.specs.Items.{Item}
 use Rattle.sender_load.specs.declared.Sender.{Sender}
 use Rattle.sender_load.specs.Items.{width, wholeLoad, roleAt, sentAs, firstPlace, part, identifierFor, sourceBy, sentAt, itemOf, along, pieces, itemCount, itemsOf}
-use Rattle.sender.specs.Calls.{newLoad}
 use Rattle.sender_loop.proofs.Head.{at, itemAt, sent-item}
 
 -- bytes one by one
@@ -27,7 +25,7 @@ module _ (sender : Sender) (image : List ℕ) where
   abbrev wide : ℕ
   wide = width (sender .port)
 
-  abbrev walk : ℕ → ℕ → List Item
+  abbrev pub walk : ℕ → ℕ → List Item
   walk count place = map itemOf (along (λ s. sentAt s image) count (at sender place))
 
   -- so many items of a role from a place on
@@ -42,7 +40,7 @@ module _ (sender : Sender) (image : List ℕ) where
   sent-same Role.Header place = refl
   sent-same (Role.Data load) place = refl
 
-  item-of : (role : Role) (place : ℕ) → roleAt (at sender place) ≡ role
+  pub item-of : (role : Role) (place : ℕ) → roleAt (at sender place) ≡ role
       → itemAt sender image place
       ≡ Item.Of (sourceBy (sender .port) (identifierFor role)) (take wide (drop (place - firstPlace role) (sentAs role sender image)))
   unfolding part
@@ -74,6 +72,11 @@ module _ (sender : Sender) (image : List ℕ) where
   walk-add (suc count) more place =
       rw (suc-add count more) (ap (λ l. itemAt sender image place ∷ l) (walk-add count more (place + wide)))
 
+  walk-length : (count place : ℕ) → length (walk count place) ≡ count
+  unfolding along
+  walk-length zero place = refl
+  walk-length (suc count) place = ap suc (walk-length count (place + wide))
+
   -- from place 16 on all is data
   data-within : (count place : ℕ) → 16 ≤ place → Within (Role.Data (wholeLoad sender)) count place
   data-within zero place h = tt
@@ -93,21 +96,35 @@ joined : (first rest : List ℕ) → map clean first ++ map clean rest ≡ map c
 joined [] rest = refl
 joined (byte ∷ first) rest = ap (λ l. clean byte ∷ l) (joined first rest)
 
-module _ (start : ℕ) (vle : Bool) (password image : List ℕ) (eight : length password ≡ 8) where
+module _ (sender : Sender) (image : List ℕ) (eight : length (sender .configuration .password) ≡ 8) where
+  abbrev password : List ℕ
+  password = sender .configuration .password
+
+  -- the sender by a port
   abbrev load : Port → Sender
-  load port = newLoad port start vle password (length image)
+  load port =
+      record {
+        going = sender .going;
+        configuration = sender .configuration;
+        port = port;
+        start = sender .start;
+        vle = sender .vle;
+        length = sender .length;
+        place = sender .place;
+        out = sender .out;
+      }
 
   -- by CAN
   by-can : walk (load Port.Can) image (itemCount Port.Can (length image)) 0 ≡ itemsOf (load Port.Can) image
   unfolding along
   by-can =
-      let sender = load Port.Can in
+      let own = load Port.Can in
       let count = (length image + 7) / 8 in
-      walk-add sender image 2 count 0
+      walk-add own image 2 count 0
       ∙ rw (
-        item-of sender image Role.Password 0 refl,
-        item-of sender image Role.Header 8 refl,
-        walk-role sender image (Role.Data (wholeLoad sender)) count 16 (data-within sender image count 16 (omega arith)),
+        item-of own image Role.Password 0 refl,
+        item-of own image Role.Header 8 refl,
+        walk-role own image (Role.Data (wholeLoad own)) count 16 (data-within own image count 16 (omega arith)),
         take-all 8 password (omega arith),
       )
 
@@ -148,6 +165,18 @@ module _ (start : ℕ) (vle : Bool) (password image : List ℕ) (eight : length 
       ∙ rw (first, second, third, joined header image, joined password (header ++ image))
       (ap (map clean) (sym (append-assoc password header image))))
 
-  pub load-items : (port : Port) → walk (load port) image (itemCount port (length image)) 0 ≡ itemsOf (load port) image
-  load-items Port.Can = by-can
-  load-items Port.Serial = by-serial
+  by-port : (port : Port) → walk (load port) image (itemCount port (length image)) 0 ≡ itemsOf (load port) image
+  by-port Port.Can = by-can
+  by-port Port.Serial = by-serial
+
+  pub load-items : walk sender image (itemCount (sender .port) (length image)) 0 ≡ itemsOf sender image
+  load-items = by-port (sender .port)
+
+  -- the first of them
+  pub first-items : (count more : ℕ) → count + more ≡ itemCount (sender .port) (length image)
+      → walk sender image count 0 ≡ take count (itemsOf sender image)
+  first-items count more e =
+      let first = walk sender image count 0 in
+      let rest = walk sender image more (far sender image count 0) in
+      sym (take-at first rest count (walk-length sender image count 0))
+      ∙ ap (take count) (sym (walk-add sender image count more 0) ∙ rw e load-items)

@@ -5,4 +5,5 @@ pub mod Turns
 pub mod Load
 pub mod Closed
 pub mod Refused
+pub mod Places
 pub mod Closing

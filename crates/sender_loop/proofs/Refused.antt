@@ -1,8 +1,8 @@
 -- A password that the head refuses.
-use Prim.Native.Nat.{ℕ, zero, suc, _+_, _-_, _≤_, _<_}
+use Prim.Native.Nat.{ℕ, zero, suc, _+_, _-_, _/_, _≤_, _<_}
 use native.Mathlib.Omega.{arith}
 use mathlib.Core.Path.{_≡_, refl, sym, ap, _∙_}
-use mathlib.Core.List.{List, [], _∷_, _++_}
+use mathlib.Core.List.{List, [], _∷_, _++_, map}
 use mathlib.Core.Bool.{Bool, true, false, and-eq-true-iff}
 use borrow.Author.Tests.{lt-leb}
 use lib.ListN.{length, take, drop, replicate}
@@ -29,7 +29,7 @@ use Rattle.session.proofs.Laws.{step-ignores}
 use Rattle.sender_header.specs.Writing.{headerWritten}
 use Rattle.sender_echo.specs.Hearing.{heardUnder, isEcho}
 use Rattle.sender_load.specs.declared.Sender.{Sender}
-use Rattle.sender_load.specs.Items.{width, sourceBy, sentAt, along, atItem}
+use Rattle.sender_load.specs.Items.{width, sourceBy, sentAt, itemOf, along, itemCount, atItem}
 use Rattle.sender_load.specs.Echoes.{echoDue}
 use Rattle.sender_load.proofs.Laws.{few-bytes}
 use Rattle.sender.specs.declared.AskAnswer.{AskAnswer}
@@ -38,6 +38,7 @@ use Rattle.sender.specs.declared.Verdict.{Verdict}
 use Rattle.sender.specs.Calls.{idle, newLoad}
 use Rattle.sender_loop.specs.Loop.{Loop, looped, inTurns, holdingNone, passwordItems, TurnedAway, Line, connected}
 use Rattle.sender_loop.proofs.Head.{at, itemAt, echoAt, headAt, some-bytes, header-counts, header-bytes, header-shown, password-more, password-refused}
+use Rattle.sender_loop.proofs.Items.{first-items}
 use Rattle.sender_loop.proofs.Turns.{turn-more, turn-silent}
 use Rattle.sender_loop.proofs.Load.{Meant, sound-at, next-item}
 use Rattle.sender_loop.proofs.Closed.{at-start, meant, begins, ready, fresh-head}
@@ -164,10 +165,10 @@ rest-serial (suc count) place e = (omega arith, rest-serial count (place + 1) (o
 module _
     (configuration : Configuration) (port : Port) (start : ℕ) (vle : Bool) (password image sram : List ℕ)
     (line : Line configuration start vle password image sram) (refused : passes password (configuration .password) ≡ false) where
-  turned : (count : ℕ) → passwordItems port ≡ suc count → Rest port count 0
+  turned : (count more : ℕ) → passwordItems port ≡ suc count → suc (suc count) + more ≡ itemCount port (length image) → Rest port count 0
       → TurnedAway configuration (newLoad port start vle password (length image)) image sram (passwordItems port)
       (connected configuration port start vle password image sram (suc (passwordItems port)))
-  turned count counts rest =
+  turned count more counts all-items rest =
       let load = newLoad port start vle password (length image) in
       let fresh = fresh-head configuration port start vle password image sram line in
       let ok = ready configuration port start vle password image sram line in
@@ -177,7 +178,9 @@ module _
       rw (counts, begins configuration port start vle password image sram line)
       (record {
         gave = same .gave;
-        items = same .items;
+        items =
+            ap (map itemOf) (same .items)
+            ∙ first-items load image (line .eight) (suc (suc count)) more all-items;
         answered = rw one (same .answered ∙ sym (append-snoc (replicate count Outcome.Taken) (Outcome.Stops Refusal.Password) (Outcome.Ignored ∷ [])));
         echoed = same .echoed;
         said = same .said;
@@ -192,6 +195,6 @@ pub turned-away : (configuration : Configuration) (port : Port) (start : ℕ) (v
     → TurnedAway configuration (newLoad port start vle password (length image)) image sram (passwordItems port)
     (connected configuration port start vle password image sram (suc (passwordItems port)))
 turned-away configuration Port.Can start vle password image sram line refused =
-    turned configuration Port.Can start vle password image sram line refused 0 refl refl
+    turned configuration Port.Can start vle password image sram line refused 0 ((length image + 7) / 8) refl (omega arith) refl
 turned-away configuration Port.Serial start vle password image sram line refused =
-    turned configuration Port.Serial start vle password image sram line refused 7 refl (rest-serial 7 0 refl)
+    turned configuration Port.Serial start vle password image sram line refused 7 (7 + length image) refl (omega arith) (rest-serial 7 0 refl)

@@ -4,7 +4,7 @@
 use Prim.Native.Nat.{ℕ, zero, suc, _-_}
 use mathlib.Core.Path.{_≡_}
 use mathlib.Core.List.{List, [], _∷_, _++_, map}
-use mathlib.Core.Bool.{Bool, true, false, not}
+use mathlib.Core.Bool.{Bool, true, false, cond, not}
 use lib.ListN.{length, take, replicate}
 use Rattle.password.specs.Passing.{legal, passes}
 use Rattle.session_configuration.specs.declared.Configuration.{Configuration}
@@ -28,7 +28,7 @@ use Rattle.session_merging.specs.Merging.{pickedPort, inStream, only, streamOf,
 use Rattle.sender_header.specs.Writing.{headerMeant}
 use Rattle.sender_load.specs.declared.Sender.{Sender}
 use Rattle.sender_load.specs.declared.Sent.{Sent}
-use Rattle.sender_load.specs.Items.{loadHeader, wholeLoad, sentAt, itemOf, along, itemCount, itemsOf}
+use Rattle.sender_load.specs.Items.{loadHeader, wholeLoad, sentAt, itemOf, along, itemCount, itemsOf, beginningAt, beginsItem}
 use Rattle.sender_load.specs.Echoes.{echoDue, echoesOf}
 use Rattle.sender.specs.declared.AskResult.{AskResult}
 use Rattle.sender.specs.declared.BeginAnswer.{BeginAnswer}
@@ -103,12 +103,12 @@ pub record Delivered
   pub jumped : loop .session ≡ holdingNone configuration (Stage.Jumped (jumpTo sender))
   pub loaded : loop .sram ≡ stored sram (loadHeader sender .start .0) image
 
--- A password that the head refuses, in `count` items: it echoes them all, so that the load goes on, and ignores the first item of the header, so that
--- the load is abandoned.
+-- A password that the head refuses, in `count` items: they are sent as they are, and the head echoes them all, so that the load goes on; it
+-- ignores the first item of the header, so that the load is abandoned.
 pub record TurnedAway
     (configuration : Configuration) (sender : Sender) (image sram : List ℕ) (count : ℕ) (loop : Loop) : Type 0 where
   pub gave : inTurns (λ turn. turn .given) loop ≡ replicate (suc count) AskAnswer.Gives
-  pub items : inTurns (λ turn. turn .sent) loop ≡ along (λ at. sentAt at image) (suc count) sender
+  pub items : map itemOf (inTurns (λ turn. turn .sent) loop) ≡ take (suc count) (itemsOf sender image)
   pub answered : inTurns (λ turn. turn .answer .outcome) loop
       ≡ untilLast count Outcome.Taken (Outcome.Stops Refusal.Password) ++ Outcome.Ignored ∷ []
   pub echoed : inTurns (λ turn. turn .answer .echo) loop ≡ along (λ at. echoDue at image) count sender ++ noEcho ∷ []
@@ -146,9 +146,12 @@ pub record Line (configuration : Configuration) (start : ℕ) (vle : Bool) (pass
   pub right : rightSize configuration sram ≡ true
   pub fit : fits configuration (headerMeant start vle (length image)) ≡ true
 
--- What `sender_loop::every_load` promises of every such head and load.
+-- What `sender_loop::every_load` promises, first of every sender, then of every such head and load.
 pub record EveryLoad : Type 0 where
-  -- asking again gives the same, of every sender
+  -- items begin where asking and telling take them to begin, and asking gives the one that begins at the place
+  pub stands : (sender : Sender) (image : List ℕ) → length (sender .configuration .password) ≡ 8 → length image ≡ sender .length
+      → beginningAt (sender .place) (itemsOf sender image) ≡ cond (beginsItem sender) (itemOf (sentAt sender image) ∷ []) []
+  -- asking again gives the same
   pub asks-again : (sender : Sender) (image : List ℕ) → asked (asked sender image .sender) image ≡ asked sender image
   -- beginning gets 0
   pub begins : (configuration : Configuration) (port : Port) (start : ℕ) (vle : Bool) (password image sram : List ℕ)
