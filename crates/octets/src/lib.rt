@@ -1,8 +1,9 @@
-// Reads of a byte and of big-endian numbers that answer for every place of every slice; and differences and least numbers, which answer
-// for all numbers.
+// Reads of a byte and of big-endian numbers that answer for every place of every slice; a number as its bytes; and differences and least
+// numbers, which answer for all numbers.
 ghost use mathlib.Core.Path.{_≡_};
 ghost use Prim.Native.Nat.{_+_, _-_, _*_, min};
 ghost use Rattle.octets.specs.Read.{byteAt, halfAt, wordAt, firstEight};
+ghost use Rattle.octets.specs.Bytes.{wordBytes};
 
 // The difference of two numbers, or 0 where the second is larger.
 pub fn difference(a: usize, b: usize) -> usize
@@ -78,5 +79,17 @@ pub fn first_eight(s: &[u8]) -> [u8; 8]
         byte(s, 5),
         byte(s, 6),
         byte(s, 7),
+    ]
+}
+
+// The four bytes of a number of 32 bits.
+pub fn word_bytes(word: u32) -> [u8; 4]
+    ensures { λ r. ⌜ r ≡ wordBytes word ⌝ }
+{
+    [
+        (word / 65536 / 256) as u8,
+        (word / 65536 % 256) as u8,
+        (word % 65536 / 256) as u8,
+        (word % 65536 % 256) as u8,
     ]
 }

@@ -9,12 +9,13 @@ use borrow.Author.Tests.{le-leb, lt-leb, lt-ltb, leb-true, ltb-true}
 use lib.Dec.{leb, ltb}
 use lib.ListN.{length, take, drop, getD, set, length-append, length-drop, take-append-drop, drop-of-length-le}
 use lib.Seq.{take-all, take-take, take-append-le, take-at, drop-at, drop-append-add, drop-drop, drop-cons, length-take-le, set-split, append-snoc}
+use Rattle.octets.specs.Bytes.{wordBytes}
 use Rattle.buffers.specs.Write.{filled}
 use Rattle.buffers.proofs.Lending.{lent, back, put-back}
 use Rattle.session_state.specs.declared.Stage.{Stage}
 use Rattle.session_answers.specs.Answers.{refusalNumber}
 use Rattle.replay_lines.specs.Digits.{ascii, lastDigit, decimalIn, decimal, hexOf}
-use Rattle.replay_lines.specs.Lines.{echoText, recordLine, addressBytes, lastLine}
+use Rattle.replay_lines.specs.Lines.{echoText, recordLine, lastLine}
 use Rattle.replay_lines.specs.Output.{Wrote, Output, asOutput, appended}
 
 -- nothing
@@ -250,7 +251,7 @@ last-length (Stage.Stopped refusal) =
       decimal-length 19 (refusalNumber refusal),
     )
 last-length (Stage.Jumped jump) =
-    let address = addressBytes (jump .start .0) in
+    let address = wordBytes (jump .start .0) in
     omega (
       arith,
       length-append (ascii "end jump " ++ hexOf address) (ascii "\n"),

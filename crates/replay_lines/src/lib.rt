@@ -5,7 +5,7 @@ ghost use Prim.Native.Nat.{_*_, _≤_, _<_};
 ghost use mathlib.Core.List.{[], _∷_, _++_};
 ghost use lib.ListN.{length, take};
 ghost use Rattle.replay_lines.specs.Digits.{ascii, decimal, hexDigit, hexOf};
-ghost use Rattle.replay_lines.specs.Lines.{echoText, recordLine, addressBytes, lastLine};
+ghost use Rattle.replay_lines.specs.Lines.{echoText, recordLine, lastLine};
 ghost use Rattle.replay_lines.specs.Output.{Wrote, asOutput, appended};
 use session_state::Jump;
 use session_state::Refusal;
@@ -155,18 +155,6 @@ fn put_stopped(line: &mut [u8], refusal: Refusal) -> usize
     put_bytes(line, digits, b"end stopped ")
 }
 
-// The four bytes of an address.
-fn address_bytes(address: u32) -> [u8; 4]
-    ensures { λ r. ⌜ r ≡ addressBytes address ⌝ }
-{
-    [
-        (address / 16777216) as u8,
-        (address / 65536 % 256) as u8,
-        (address / 256 % 256) as u8,
-        (address % 256) as u8,
-    ]
-}
-
 // The last line of a session that jumped.
 fn put_jumped(line: &mut [u8], jump: Jump) -> usize
     requires { ⌜ length (now line) ≡ 64 ⌝ }
@@ -174,7 +162,7 @@ fn put_jumped(line: &mut [u8], jump: Jump) -> usize
 {
     let feed = put_byte(line, 64, b'\n');
     let start = jump.start;
-    let bytes = address_bytes(start.0);
+    let bytes = octets::word_bytes(start.0);
     let address = put_hex(line, feed, &bytes[..]);
     put_bytes(line, address, b"end jump ")
 }

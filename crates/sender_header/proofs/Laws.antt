@@ -6,6 +6,7 @@ use mathlib.Core.Bool.{Bool, true, false}
 use borrow.Author.Tests.{eq-eqb, ne-eqb}
 use lib.Dec.{eqb}
 use Rattle.octets.specs.Read.{wordAt}
+use Rattle.octets.specs.Bytes.{wordBytes}
 use Rattle.octets.proofs.Cases.{untrue}
 use Rattle.session_configuration.specs.declared.Configuration.{Configuration}
 use Rattle.sram.specs.Region.{size, base, inRange}
@@ -13,7 +14,7 @@ use Rattle.sram.proofs.Laws.{range-base, range-end}
 use Rattle.session_state.specs.declared.Refusal.{Refusal}
 use Rattle.header.specs.declared.Validated.{Validated}
 use Rattle.header.specs.Reading.{headerRead, validated}
-use Rattle.sender_header.specs.Writing.{wordBytes, lengthWord, headerWritten, headerMeant}
+use Rattle.sender_header.specs.Writing.{lengthWord, headerWritten, headerMeant}
 
 -- a word's four bytes are the word
 joined : (word : ℕ) → wordAt (wordBytes word) 0 ≡ word

@@ -1,18 +1,12 @@
 -- The header of a load as its sender writes it (02, E1; 01, "A serial session"): the counterpart of crates/header/specs/Reading.antt.
 use Prim.Native.Nat.{ℕ, _+_, _*_, _/_, _%_, _<_}
 use mathlib.Core.Path.{_≡_}
-use mathlib.Core.List.{List, [], _∷_, _++_}
+use mathlib.Core.List.{List, _++_}
 use mathlib.Core.Bool.{Bool, cond}
+use Rattle.octets.specs.Bytes.{wordBytes}
 use Rattle.session_configuration.specs.declared.Configuration.{Configuration}
 use Rattle.header.specs.declared.Header.{Header}
 use Rattle.header.specs.Reading.{headerRead}
-
--- a number of 16 bits as two bytes, and one of 32 as four, the higher ones first
-abbrev pub halfBytes : ℕ → List ℕ
-halfBytes half = half / 256 ∷ half % 256 ∷ []
-
-abbrev pub wordBytes : ℕ → List ℕ
-wordBytes word = halfBytes (word / 65536) ++ halfBytes (word % 65536)
 
 -- the VLE bit, and below it the 31 low bits of the length
 abbrev pub lengthWord : Bool → ℕ → ℕ

@@ -1,26 +1,10 @@
 // The header of a load as its sender writes it, and what the head would make of it (02, E1).
 ghost use mathlib.Core.Path.{_≡_};
 ghost use Rattle.header.specs.Reading.{validated};
-ghost use Rattle.sender_header.specs.Writing.{Written, halfBytes, wordBytes, lengthWord, headerMeant};
+ghost use Rattle.sender_header.specs.Writing.{Written, lengthWord, headerMeant};
 use header::Validated;
 use session_configuration::Configuration;
 use session_state::Refusal;
-
-// A number of 16 bits as two bytes.
-fn half_bytes(half: u16) -> [u8; 2]
-    ensures { λ r. ⌜ r ≡ halfBytes half ⌝ }
-{
-    [(half / 256) as u8, (half % 256) as u8]
-}
-
-// A number of 32 bits as four bytes.
-fn word_bytes(word: u32) -> [u8; 4]
-    ensures { λ r. ⌜ r ≡ wordBytes word ⌝ }
-{
-    let high = half_bytes((word / 65536) as u16);
-    let low = half_bytes((word % 65536) as u16);
-    [high[0], high[1], low[0], low[1]]
-}
 
 // The VLE bit, and below it 31 bits of length.
 fn length_word(vle: bool, length: u32) -> u32
@@ -36,8 +20,8 @@ fn length_word(vle: bool, length: u32) -> u32
 pub fn write(configuration: Configuration, start: u32, vle: bool, length: u32) -> [u8; 8]
     ensures { λ r. ⌜ Written configuration start vle length r ⌝ }
 {
-    let first = word_bytes(start);
-    let last = word_bytes(length_word(vle, length));
+    let first = octets::word_bytes(start);
+    let last = octets::word_bytes(length_word(vle, length));
     [
         first[0],
         first[1],
