@@ -2,7 +2,7 @@
 use Prim.Native.Nat.{ℕ, zero, suc, _+_, _-_, _*_, _/_, _≤_, _<_}
 use native.Mathlib.Omega.{arith}
 use mathlib.Core.Path.{_≡_, refl, sym, ap, _∙_}
-use mathlib.Core.List.{List, map}
+use mathlib.Core.List.{List, map, map-map}
 use mathlib.Core.Bool.{Bool, true, not, and-eq-true-iff}
 use borrow.Author.Tests.{eqb-false, not-true}
 use lib.ListN.{length}
@@ -15,10 +15,12 @@ use Rattle.header.specs.declared.Header.{Header}
 use Rattle.header.specs.declared.Validated.{Validated}
 use Rattle.header.specs.Reading.{announcesNone, within, fits, validated}
 use Rattle.session_items.specs.Items.{Item}
+use Rattle.session_answers.specs.declared.Answer.{Answer}
+use Rattle.session_answers.specs.declared.Echo.{Echo}
 use Rattle.session_answers.proofs.Laws.{Accepted}
 use Rattle.session_fresh.specs.Fresh.{freshSession}
 use Rattle.session.specs.Running.{Call, ran}
-use Rattle.session_merging.specs.Merging.{streamOf}
+use Rattle.session_merging.specs.Merging.{pickedPort, inStream, only, streamOf}
 use Rattle.session_merging.proofs.Stream.{demand-three}
 use Rattle.sender_header.specs.Writing.{headerMeant}
 use Rattle.sender_header.proofs.Laws.{written-reads}
@@ -27,9 +29,10 @@ use Rattle.sender_load.specs.Items.{sentAt, itemOf, along, itemCount, itemsOf, 
 use Rattle.sender_load.proofs.Laws.{fit-short}
 use Rattle.sender.specs.declared.BeginAnswer.{BeginAnswer}
 use Rattle.sender.specs.Calls.{headWith, newLoad, loadBegun}
-use Rattle.sender_loop.specs.Loop.{Loop, Line, Delivered, Amid, connected}
+use Rattle.sender_loop.specs.Loop.{Turn, Loop, hearing, Line, Delivered, Amid, connected}
 use Rattle.sender_loop.proofs.Head.{headAt, sram-first}
 use Rattle.sender_loop.proofs.Items.{load-items}
+use Rattle.sender_loop.proofs.Turns.{own-side}
 use Rattle.sender_loop.proofs.Load.{Reaches, Meant, Onward, onwards}
 
 -- how many items come before the last
@@ -167,14 +170,23 @@ module _
           loaded = all .loaded;
         }
 
-    -- among others, by demand 3: the stream alone ends as the loop does
+    -- among others, by demand 3: the stream alone ends as the loop does, and the sender goes by the echoes
     pub amid : length (configuration .password) ≡ 8 → (list : List Item) → streamOf list ≡ itemsOf load image
-        → Amid list loop (ran (freshSession configuration) sram list)
+        → Amid port image (loadBegun port start vle password (length image) .sender) list loop (ran (freshSession configuration) sram list)
     amid eight list e =
         let merged = demand-three configuration sram list eight (line .fine) (line .right) in
         let alone = rw (load-items load image (line .eight) ∙ sym e) at all in
+        let answers = ap (map (λ (call : Call). call .answer)) (merged .same-answers) ∙ alone .same-answers in
+        let begun = loadBegun port start vle password (length image) .sender in
         record {
-          same-answers = ap (map (λ (call : Call). call .answer)) (merged .same-answers) ∙ alone .same-answers;
+          same-answers = answers;
+          same-side =
+              ap (λ (echoes : List Echo). hearing echoes port image begun)
+              (sym (map-map (λ (answer : Answer). answer .echo) (λ (call : Call). call .answer)
+              (only (λ (call : Call). inStream (pickedPort list) (call .item)) (ran (freshSession configuration) sram list .calls)))
+              ∙ ap (map (λ (answer : Answer). answer .echo)) answers
+              ∙ map-map (λ (answer : Answer). answer .echo) (λ (turn : Turn). turn .answer) (loop .turns))
+              ∙ own-side count port image begun (freshSession configuration) sram;
           others = merged .others;
           same-session = merged .same-session ∙ alone .same-session;
           same-sram = merged .same-sram ∙ alone .same-sram;

@@ -16,14 +16,14 @@ use Rattle.session_answers.specs.Answers.{withoutEcho, unchanged}
 use Rattle.session.specs.Rules.{step}
 use Rattle.sender_echo.specs.Hearing.{isEcho}
 use Rattle.sender_load.specs.declared.Sender.{Sender}
-use Rattle.sender_load.specs.Items.{width, roleAt, part, sentAt, standing, nextPlace, soundLoad}
+use Rattle.sender_load.specs.Items.{width, roleAt, part, sentAt, itemOf, standing, nextPlace, soundLoad}
 use Rattle.sender_load.specs.Echoes.{echoDue}
 use Rattle.sender.specs.declared.AskAnswer.{AskAnswer}
 use Rattle.sender.specs.declared.AskResult.{AskResult}
 use Rattle.sender.specs.declared.TellAnswer.{TellAnswer}
 use Rattle.sender.specs.declared.Verdict.{Verdict}
 use Rattle.sender.specs.Calls.{idle, gives, givesNone, asked, tells, isLast, told}
-use Rattle.sender_loop.specs.Loop.{Turn, thenTurns, looped}
+use Rattle.sender_loop.specs.Loop.{Turn, toldBack, thenTurns, looped, Side, hearing, inTurns}
 use Rattle.sender_loop.proofs.Head.{Steps, at, itemAt, echoAt}
 
 -- an echo is the echo that is due
@@ -147,3 +147,17 @@ module _ (sender : Sender) (image : List ℕ) (going : sender .going ≡ true) w
         }
     unfolding looped
     turn-silent session m ignored other = rw (asks, ignored, tells-other 0 [] other)
+
+-- what a sender gives and says in a loop, it does by the echoes alone
+pub own-side : (count : ℕ) (port : Port) (image : List ℕ) (sender : Sender) (session : Session) (sram : List ℕ)
+    → let loop = looped count port image sender session sram in
+    hearing (inTurns (λ turn. turn .answer .echo) loop) port image sender
+    ≡ record { sent = inTurns (λ turn. turn .sent) loop; said = inTurns (λ turn. turn .said) loop; sender = loop .sender }
+unfolding hearing looped
+own-side zero port image sender session sram = refl
+own-side (suc count) port image sender session sram =
+    let asks = asked sender image in
+    let head = step session sram (itemOf (asks .sent)) in
+    let tells = toldBack (asks .sender) image port (head .answer .echo) in
+    ap (λ (rest : Side). record { sent = asks .sent ∷ rest .sent; said = tells .answer ∷ rest .said; sender = rest .sender })
+    (own-side count port image (tells .sender) (head .session) (head .sram))

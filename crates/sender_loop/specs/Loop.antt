@@ -72,6 +72,21 @@ looped (suc count) port image sender session sram =
     (record { given = asks .answer; sent = asks .sent; answer = head .answer; said = tells .answer })
     (looped count port image (tells .sender) (head .session) (head .sram))
 
+-- the sender's side of several turns: the items that it gave, what it said when told, and the sender that the last one leaves
+pub record Side : Type 0 where
+  pub sent : List Sent
+  pub said : List TellAnswer
+  pub sender : Sender
+
+-- the sender alone, asked and told one echo after another
+unfoldable pub hearing : List Echo → Port → List ℕ → Sender → Side
+hearing [] port image sender = record { sent = []; said = []; sender = sender }
+hearing (echo ∷ echoes) port image sender =
+    let asks : AskResult = asked sender image in
+    let tells : TellResult = toldBack (asks .sender) image port echo in
+    let rest : Side = hearing echoes port image (tells .sender) in
+    record { sent = asks .sent ∷ rest .sent; said = tells .answer ∷ rest .said; sender = rest .sender }
+
 -- one part of each turn, in order
 abbrev pub inTurns : {A : Type 0} → (Turn → A) → Loop → List A
 inTurns of loop = map of (loop .turns)
@@ -123,13 +138,20 @@ passwordItems Port.Can = 1
 passwordItems Port.Serial = 8
 
 -- The load's items among others, in a list whose stream they are; so no opening of the other port comes before the first of them. The head answers
--- them as in the loop, echoes none of the others, and ends as there.
-pub record Amid (items : List Item) (loop : Loop) (run : Run) : Type 0 where
+-- them as in the loop, echoes none of the others, and ends as there; and so does the sender, told what the head echoes to its items.
+pub record Amid (port : Port) (image : List ℕ) (sender : Sender) (items : List Item) (loop : Loop) (run : Run) : Type 0 where
   pub same-answers
       : map (λ (call : Call). call .answer) (only (λ (call : Call). inStream (pickedPort items) (call .item)) (run .calls))
       ≡ inTurns (λ turn. turn .answer) loop
   pub others : only (λ (call : Call). not (inStream (pickedPort items) (call .item))) (run .calls)
       ≡ map callOutside (only (λ (item : Item). not (inStream (pickedPort items) item)) items)
+  pub same-side
+      : hearing
+      (map (λ (call : Call). call .answer .echo) (only (λ (call : Call). inStream (pickedPort items) (call .item)) (run .calls)))
+      port
+      image
+      sender
+      ≡ record { sent = inTurns (λ turn. turn .sent) loop; said = inTurns (λ turn. turn .said) loop; sender = loop .sender }
   pub same-session : run .session ≡ loop .session
   pub same-sram : run .sram ≡ loop .sram
 
@@ -179,5 +201,6 @@ pub record EveryLoad : Type 0 where
       Line configuration start vle password image sram
       → legal password ≡ true
       → streamOf items ≡ itemsOf (newLoad port start vle password (length image)) image
-      → Amid items (connected configuration port start vle password image sram count)
+      → Amid port image (loadBegun port start vle password (length image) .sender) items
+      (connected configuration port start vle password image sram count)
       (ran (freshSession configuration) sram items)
