@@ -229,8 +229,8 @@ uint8_t boot_assist_list(uint32_t *session, size_t session_len,
                          uint32_t *answers, size_t answers_len);
 
 /* The numbers of a sender, the truck's side of a load. A call that ends a load, or refuses to begin one, writes 0 for
- * all; where GOING is 0 the others are not looked at. In GOING, VLE and OUT a number above 1 is read as 1, in PORT as serial, and of a
- * password byte the low 8 bits are read; a call that writes the sender writes what it read. */
+ * all; where GOING is 0 the others are not looked at. In GOING, VLE and OUT a number above 1 is read as 1, in PORT as
+ * serial, and of a password byte the low 8 bits are read; a call that writes the sender writes what it read. */
 enum boot_assist_sender_number {
     BOOT_ASSIST_SENDER_GOING = 0,         /* 1: a load is going */
     BOOT_ASSIST_SENDER_PASSWORD = 1,      /* 8 bytes: the password that is sent */
