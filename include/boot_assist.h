@@ -290,7 +290,7 @@ uint8_t boot_assist_ask(uint32_t *sender, size_t sender_len,
 /* What becomes of a load when the sender is told an echo. */
 enum boot_assist_verdict {
     BOOT_ASSIST_VERDICT_GOES_ON = 0,  /* it was the item's echo: ask for the next */
-    BOOT_ASSIST_VERDICT_DONE = 1,     /* it was the last item's: on a clean line a fresh head has the image, and jumps */
+    BOOT_ASSIST_VERDICT_DONE = 1,     /* the last item's echo: on a clean line a fresh head has the image, and jumps */
     BOOT_ASSIST_VERDICT_ABANDONED = 2 /* it was another, or none */
 };
 

@@ -7,7 +7,6 @@ use mathlib.Core.Bool.{Bool, true, false, cond, and-false}
 use borrow.Author.Tests.{le-leb}
 use lib.Dec.{leb}
 use lib.ListN.{length, getD, drop, replicate, length-append, length-replicate}
-use Rattle.octets.specs.Same.{same}
 use Rattle.octets.specs.Read.{byteAt}
 use Rattle.boot_table.specs.declared.Asked.{Asked}
 use Rattle.boot_table.specs.Table.{askedBy, rowFor, rowOf, control55AA}
@@ -15,7 +14,6 @@ use Rattle.boot_rchw.specs.declared.Search.{Search}
 use Rattle.boot_rchw.specs.Places.{goodPlace, searched, flashPlaces}
 use Rattle.boot_rchw.proofs.Searching.{search-found, search-on, search-none}
 use Rattle.session_configuration.specs.declared.Entered.{Entered}
-use Rattle.boot.specs.declared.Answer.{Answer}
 use Rattle.boot.specs.declared.Mode.{Mode}
 use Rattle.boot.specs.Choosing.{allowed, refusal, settled, chosen, bootChoice}
 use Rattle.cases_rules.specs.Trials.{blank, with5A, internalBoot, boots}

@@ -76,7 +76,8 @@ with5A place = replicate (place + 1) 0 ++ 0x5A ∷ replicate (2097150 - place) 0
 abbrev pub internalBoot : List ℕ → Answer
 internalBoot flash = bootChoice 0 flash (replicate 12 0) (replicate 8 0) .answer
 
--- what such a boot answers: how, from which place, and how many were looked at; all else that is read there is 0, and the row is the first
+-- what such a boot answers: how, from which place, and how many were looked at; what is read at the place is 0, and the row of 01's table is the
+-- first
 abbrev pub boots : Mode → ℕ → ℕ → Answer
 boots mode place examined =
     Answer.Boots

@@ -4,7 +4,7 @@ use native.Mathlib.Omega.{arith}
 use mathlib.Core.Path.{_≡_, refl, sym, ap, _∙_}
 use mathlib.Core.List.{List}
 use mathlib.Core.Bool.{Bool, true, false, cond, not, _&&_, and-eq-true-iff, true≢false, false≢true}
-use borrow.Author.Tests.{ltb-true, leb-true, leb-false, eqb-true}
+use borrow.Author.Tests.{ltb-true, leb-true, leb-false}
 use lib.Dec.{leb, ltb, eqb}
 use lib.ListN.{length, take, length-take}
 use lib.Seq.{take-all}

@@ -4,16 +4,17 @@ use native.Mathlib.Nat.{zero-add, add-zero, sub-zero, min-eq-left}
 use native.Mathlib.Omega.{arith}
 use mathlib.Core.Path.{_≡_, refl, sym, ap, _∙_}
 use mathlib.Core.List.{List, [], _∷_}
-use mathlib.Core.Bool.{Bool, true, false, cond, _&&_, and-false}
+use mathlib.Core.Bool.{true, false, cond, _&&_, and-false}
 use borrow.Author.Tests.{le-leb, lt-leb, lt-ltb, le-ltb, ne-eqb}
-use lib.Dec.{leb, ltb, eqb}
+use lib.Dec.{ltb}
 use lib.ListN.{length, drop, length-take, length-drop}
 use Rattle.session_state.specs.declared.Port.{Port}
 use Rattle.session_items.specs.declared.Role.{Role}
 use Rattle.session_items.specs.Items.{Item, bytesOf}
 use Rattle.sender_load.specs.declared.Sender.{Sender}
-use Rattle.sender_load.specs.Items.{width, wholeLoad, roleAt, sentAs, firstPlace, part, identifierFor, sourceBy, sentFrom, sentAt, itemOf, along, itemCount, itemsOf, beginningAt, atItem, beginsItem}
-use Rattle.sender_loop.proofs.Head.{at, itemAt, some-bytes}
+use Rattle.sender_load.specs.Items.{width, wholeLoad, roleAt, sentAs, firstPlace, part, identifierFor, sourceBy, sentAt, itemOf, along, itemsOf, beginningAt, atItem, beginsItem}
+use Rattle.sender_loop.specs.Loop.{PlaceStands}
+use Rattle.sender_loop.proofs.Head.{at, itemAt, sent-item}
 use Rattle.sender_loop.proofs.Items.{walk, item-of, load-items}
 use Rattle.sender_loop.proofs.Turns.{split}
 use Rattle.sender_loop.proofs.Load.{Reaches, item-room, next-item}
@@ -124,17 +125,13 @@ module _
       ∙ begun-next place more past))
 
   -- whether an item is out changes nothing
-  own-part : (role : Role) → part role (at sender (sender .place)) image ≡ part role sender image
-  unfolding part
-  own-part Role.Password = refl
-  own-part Role.Header = refl
-  own-part (Role.Data load) = refl
-
   own-item : itemAt sender image (sender .place) ≡ itemOf (sentAt sender image)
+  unfolding part
   own-item =
-      ap (λ bytes. itemOf (sentFrom (sourceBy (sender .port) (identifierFor (roleAt sender))) bytes)) (own-part (roleAt sender))
+      item-of sender image (roleAt sender) (sender .place) refl
+      ∙ sym (sent-item (sourceBy (sender .port) (identifierFor (roleAt sender))) (part (roleAt sender) sender image))
 
-  pub stands : beginningAt (sender .place) (itemsOf sender image) ≡ cond (beginsItem sender) (itemOf (sentAt sender image) ∷ []) []
+  pub stands : PlaceStands sender image
   stands =
       let last = before-last (sender .port) (sender .length) in
       let items = rw (whole, last .counts) at (load-items sender image eight) in

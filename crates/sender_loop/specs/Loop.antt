@@ -168,11 +168,17 @@ pub record Line (configuration : Configuration) (start : ℕ) (vle : Bool) (pass
   pub right : rightSize configuration sram ≡ true
   pub fit : fits configuration (headerMeant start vle (length image)) ≡ true
 
+-- Where a sender's place stands in the list of its items: one begins there exactly where asking and telling take one to begin, and it is the one
+-- that asking gives.
+abbrev pub PlaceStands : Sender → List ℕ → Type 0
+PlaceStands sender image =
+    beginningAt (sender .place) (itemsOf sender image) ≡ cond (beginsItem sender) (itemOf (sentAt sender image) ∷ []) []
+
 -- What `sender_loop::every_load` promises, first of every sender, then of every such head and load.
 pub record EveryLoad : Type 0 where
-  -- items begin where asking and telling take them to begin, and asking gives the one that begins at the place
+  -- with an image of the length that it was begun with; a password has 8 bytes
   pub stands : (sender : Sender) (image : List ℕ) → length (sender .configuration .password) ≡ 8 → length image ≡ sender .length
-      → beginningAt (sender .place) (itemsOf sender image) ≡ cond (beginsItem sender) (itemOf (sentAt sender image) ∷ []) []
+      → PlaceStands sender image
   -- asking again gives the same
   pub asks-again : (sender : Sender) (image : List ℕ) → asked (asked sender image .sender) image ≡ asked sender image
   -- beginning gets 0
