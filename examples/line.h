@@ -1,7 +1,7 @@
 /*
- * What load.c, head.c, truck.c and wire.c share: reading arguments, and reading and writing a line, which is an open
- * descriptor. A serial line carries raw bytes. A CAN line carries packets, one a frame: the identifier in 2 bytes, the
- * higher first, then the data bytes.
+ * What load.c, head.c, truck.c and wire.c share: reading arguments and an image, and reading and writing a line, which
+ * is an open descriptor. A serial line carries raw bytes. A CAN line carries packets, one a frame: the identifier in 2
+ * bytes, the higher first, then the data bytes.
  */
 #ifndef LINE_H
 #define LINE_H
@@ -46,6 +46,22 @@ static inline int line_port(const char *name)
     if (strcmp(name, "can") == 0)
         return BOOT_ASSIST_PORT_CAN;
     return strcmp(name, "serial") == 0 ? BOOT_ASSIST_PORT_SERIAL : -1;
+}
+
+/* Reads a file, or as much of it as there is room for. Returns how many bytes were read; or -1, and says why. */
+static inline int64_t line_file(const char *name, uint8_t *bytes, size_t room)
+{
+    FILE *file = fopen(name, "rb");
+    if (file == NULL) {
+        perror(name);
+        return -1;
+    }
+    size_t len = fread(bytes, 1, room, file);
+    int bad = ferror(file);
+    if (bad)
+        perror(name);
+    fclose(file);
+    return bad ? -1 : (int64_t)len;
 }
 
 static inline int64_t line_clock(void)

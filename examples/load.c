@@ -89,17 +89,10 @@ int main(int argc, char **argv)
         fprintf(stderr, "usage: load can|serial START IMAGE\n");
         return 2;
     }
-    FILE *file = fopen(argv[3], "rb");
-    if (file == NULL) {
-        perror(argv[3]);
+    int64_t count = line_file(argv[3], image, sizeof image);
+    if (count < 0)
         return 2;
-    }
-    size_t len = fread(image, 1, sizeof image, file);
-    if (ferror(file)) {
-        perror(argv[3]);
-        return 2;
-    }
-    fclose(file);
+    size_t len = (size_t)count;
 
     uint32_t sender[BOOT_ASSIST_SENDER_LENGTH], session[BOOT_ASSIST_SESSION_LENGTH], answer[BOOT_ASSIST_ANSWER_LENGTH];
     uint8_t number = boot_assist_begin((uint8_t)port, (uint32_t)start, 1, password, 8, image, len,

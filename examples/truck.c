@@ -19,21 +19,6 @@ static const uint8_t password[8] = {0xFE, 0xED, 0xFA, 0xCE, 0xCA, 0xFE, 0xBE, 0x
 /* One byte more than SRAM has: what is longer still is refused with the same number. */
 static uint8_t image[65536 + 1];
 
-static int read_image(const char *name, size_t *len)
-{
-    FILE *file = fopen(name, "rb");
-    if (file == NULL) {
-        perror(name);
-        return 0;
-    }
-    *len = fread(image, 1, sizeof image, file);
-    int bad = ferror(file);
-    if (bad)
-        perror(name);
-    fclose(file);
-    return !bad;
-}
-
 /* Sends an item and waits for its echo, which is empty if none comes. */
 static void exchange(int fd, int port, const uint32_t *item, struct line_item *echo)
 {
@@ -70,9 +55,10 @@ int main(int argc, char **argv)
         fprintf(stderr, "usage: truck can|serial FD START IMAGE\n");
         return 2;
     }
-    size_t len = 0, items = 0;
-    if (!read_image(argv[4], &len))
+    int64_t count = line_file(argv[4], image, sizeof image);
+    if (count < 0)
         return 2;
+    size_t len = (size_t)count, items = 0;
     signal(SIGPIPE, SIG_IGN);
     uint32_t sender[BOOT_ASSIST_SENDER_LENGTH];
     uint8_t number = boot_assist_begin((uint8_t)port, (uint32_t)start, 1, password, 8, image, len,
