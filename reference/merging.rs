@@ -1,5 +1,5 @@
 //! Demand 3 read off the list of items, without running a session: document 01, "The
-//! words of demand 3" and "Read as a plain list".
+//! words of demand 3" and "Read as a plain list"; document 02, E2.
 
 use crate::session::{passes, Header, Item, Port};
 
@@ -25,11 +25,15 @@ pub fn stream(items: &[Item]) -> Vec<usize> {
 }
 
 /// The stream read as a plain list. It may be shorter than a download, and that of
-/// serial may be longer.
+/// serial may be longer. That of serial begins with the first clean byte and runs up to
+/// the next faulty one (02, E2); faulty bytes before it change nothing.
 pub fn plain(items: &[Item]) -> Vec<u8> {
     let stream = stream(items).into_iter().map(|i| &items[i]);
     match picked(items) {
-        Some(Port::Serial) => stream.filter_map(clean_byte).collect(),
+        Some(Port::Serial) => stream
+            .skip_while(|item| !item.opens())
+            .map_while(clean_byte)
+            .collect(),
         Some(Port::Can) => joined(stream.filter_map(frame)),
         None => Vec::new(),
     }
@@ -128,8 +132,35 @@ mod tests {
         indices.iter().map(|&i| items[i].clone()).collect()
     }
 
-    /// Demand 3 for one list of calls. Answers whether the head jumped.
-    fn demand_3(selected: [u8; 8], before: &[u8], items: &[Item]) -> bool {
+    /// The index of the faulty byte that ends the plain list of serial.
+    fn ending(items: &[Item]) -> Option<usize> {
+        let first = items.iter().position(Item::opens)?;
+        let serial = items[first].port() == Port::Serial;
+        let fault = |i: usize| matches!(items[i], Item::Byte { faulty: true, .. });
+        (first..items.len()).find(|&i| serial && fault(i))
+    }
+
+    /// The number that stops or completes the load of a plain list, 12 if nothing else
+    /// does before its end and a faulty byte is there.
+    fn outcome(selected: &[u8; 8], plain: &[u8], faulty_end: bool) -> Option<u8> {
+        let unfinished = faulty_end.then_some(12);
+        let Some((password, rest)) = plain.split_first_chunk() else {
+            return unfinished;
+        };
+        if !passes(password, selected) {
+            return Some(2);
+        }
+        let Some((header, data)) = rest.split_first_chunk() else {
+            return unfinished;
+        };
+        let header = Header::read(header);
+        let all = data.len() >= header.length as usize;
+        header.refusal().or(all.then_some(5)).or(unfinished)
+    }
+
+    /// Demand 3 for one list of calls. Answers the number that stopped or completed the
+    /// load, if one did: 5 if the head jumped.
+    fn demand_3(selected: [u8; 8], before: &[u8], items: &[Item]) -> Option<u8> {
         let stream = stream(items);
         let alone = select(items, &stream);
         let plain = plain(items);
@@ -147,7 +178,7 @@ mod tests {
         let mut session = Session::fresh(Entered::Asked, selected);
         let mut sram = before.to_vec();
         let (mut session_alone, mut sram_alone) = (session.clone(), sram.clone());
-        let mut jumps = Vec::new();
+        let (mut jumps, mut ends) = (Vec::new(), Vec::new());
         for (i, item) in items.iter().enumerate() {
             let answer = session.item(&mut sram, item);
             let expected = if stream.contains(&i) {
@@ -163,7 +194,19 @@ mod tests {
             assert!(session.sound());
             assert_eq!(answer.number == 5, answer.jump.is_some());
             jumps.extend(answer.jump);
+            if !matches!(answer.number, 0 | 1 | 6) {
+                ends.push(answer.number);
+            }
+            // 02, E2: the faulty byte stops the session without an echo.
+            if answer.number == 12 {
+                assert_eq!((Some(i), answer.echo), (ending(items), None), "{items:?}");
+            }
         }
+
+        // The load ends once at most.
+        let end = outcome(&selected, &plain, ending(items).is_some());
+        assert_eq!(ends, Vec::from_iter(end), "{items:?}");
+        assert_eq!(load.is_some(), end == Some(5), "{items:?}");
 
         let jump = load.as_ref().map(|load| (load.start, load.vle));
         assert_eq!(jumps, Vec::from_iter(jump), "{items:?}");
@@ -187,7 +230,7 @@ mod tests {
             assert_eq!(sram[from..to], load.bytes);
             assert!(sram[..from] == before[..from] && sram[to..] == before[to..]);
         }
-        load.is_some()
+        end
     }
 
     #[test]
@@ -209,7 +252,7 @@ mod tests {
         assert_eq!(picked(&no_openings), None);
         assert_eq!(stream(&no_openings), []);
         assert_eq!(plain(&no_openings), []);
-        assert!(!demand_3(PUBLIC, &memory(), &no_openings));
+        assert_eq!(demand_3(PUBLIC, &memory(), &no_openings), None);
         for (opening, port) in [(password, Port::Can), (clean(1), Port::Serial)] {
             let items = [&no_openings[..], &[opening]].concat();
             assert_eq!(picked(&items), Some(port));
@@ -238,11 +281,45 @@ mod tests {
             frame(0x011, &[3; 8]),
             clean(4),
             faulty(5),
+            clean(6),
         ];
         assert_eq!(plain(&items), [2, 4]);
         // Also what is beyond the announced count.
         let items = [serial(BASE, &[6, 7]), vec![clean(8)]].concat();
         assert_eq!(plain(&items)[16..], [6, 7, 8]);
+    }
+
+    /// 02, E2: one or two faulty bytes at every place of a list.
+    #[test]
+    fn plain_list_of_serial_ends_at_a_faulty_byte() {
+        let load = serial(BASE, &[6, 7]);
+        let whole = plain(&load);
+        assert_eq!(whole.len(), 18);
+        let list = [&load[..], &[clean(8), clean(9)]].concat();
+        for place in 0..=list.len() {
+            for faults in [vec![faulty(3)], vec![faulty(3), faulty(3)]] {
+                let items = [&list[..place], &faults, &list[place..]].concat();
+                let mut expected = [&whole[..], &[8, 9]].concat();
+                // Those before the first clean byte end nothing.
+                if place > 0 {
+                    expected.truncate(place);
+                }
+                assert_eq!(plain(&items), expected);
+                let number = if (1..18).contains(&place) { 12 } else { 5 };
+                assert_eq!(demand_3(PUBLIC, &memory(), &items), Some(number));
+            }
+        }
+        // A load that was refused is not stopped again.
+        let wrong = vec![clean(1); 8];
+        let items = [&wrong[..], &[faulty(3)], &list].concat();
+        assert_eq!(plain(&items), [1; 8]);
+        assert_eq!(demand_3(PUBLIC, &memory(), &items), Some(2));
+        // CAN hears none of them.
+        let frames = can(BASE, &[6, 7], 1);
+        let with_faults = frames.iter().flat_map(|frame| [faulty(3), frame.clone()]);
+        let items: Vec<Item> = with_faults.collect();
+        assert_eq!(plain(&items), whole);
+        assert_eq!(demand_3(PUBLIC, &memory(), &items), Some(5));
     }
 
     #[test]
@@ -273,10 +350,10 @@ mod tests {
         assert_eq!(plain(&items), expected);
         assert_eq!(plain(&items[..7]), PUBLIC);
         assert_eq!(plain(&items[..10]), expected[..16]);
-        assert!(demand_3(PUBLIC, &memory(), &items));
+        assert_eq!(demand_3(PUBLIC, &memory(), &items), Some(5));
         for count in 0..items.len() - 1 {
-            let jumped = demand_3(PUBLIC, &memory(), &items[..count]);
-            assert_eq!(jumped, count > 17);
+            let end = demand_3(PUBLIC, &memory(), &items[..count]);
+            assert_eq!(end, (count > 17).then_some(5));
         }
     }
 
@@ -336,18 +413,18 @@ mod tests {
             [&serial[..16], &can, &serial[16..]].concat(),
             [&can[..4], &serial, &can[2..]].concat(),
         ] {
-            assert!(demand_3(PUBLIC, &before, &list));
+            assert_eq!(demand_3(PUBLIC, &before, &list), Some(5));
         }
         // One byte short.
         let list = [&serial[..35], &can].concat();
-        assert!(!demand_3(PUBLIC, &before, &list));
+        assert_eq!(demand_3(PUBLIC, &before, &list), None);
         // A frame that comes twice is taken twice: 8, 8 and 4 bytes, the last 8 do not fit.
         let list = [&can[..3], &can[2..]].concat();
         assert_eq!(
             plain(&list)[16..],
             [&data[..8], &data[..8], &data[16..]].concat()
         );
-        assert!(demand_3(PUBLIC, &before, &list));
+        assert_eq!(demand_3(PUBLIC, &before, &list), Some(5));
     }
 
     #[test]
@@ -357,7 +434,7 @@ mod tests {
         items.insert(1, clean(1));
         items.insert(5_000, frame(0x013, &[1; 9]));
         items.push(frame(0x013, &[1]));
-        assert!(demand_3(PUBLIC, &memory(), &items));
+        assert_eq!(demand_3(PUBLIC, &memory(), &items), Some(5));
     }
 
     /// All lists of up to 5 of these items.
@@ -375,15 +452,16 @@ mod tests {
             faulty(0xFE),
         ];
         let before = memory();
-        let mut jumped = 0;
+        let mut seen = [0; 13];
         for length in 0..=5 {
             for list in 0..alphabet.len().pow(length) {
                 let digits = (0..length).map(|i| list / alphabet.len().pow(i) % alphabet.len());
                 let items: Vec<Item> = digits.map(|i| alphabet[i].clone()).collect();
-                jumped += usize::from(demand_3(PUBLIC, &before, &items));
+                let end = demand_3(PUBLIC, &before, &items);
+                seen[usize::from(end.unwrap_or(0))] += 1;
             }
         }
-        assert!(jumped > 40, "{jumped}");
+        assert!(seen[5] > 40 && seen[12] > 40, "{seen:?}");
     }
 
     /// A download, mostly a right one, in items of one port.
@@ -435,11 +513,12 @@ mod tests {
             while rng.one_in(seldom) {
                 let other = any_item(rng);
                 // What would open the other port too early, or would be data to this
-                // one, comes in wild lists only.
+                // one, or a fault to it, comes in wild lists only.
                 let opened = picked(&items).is_some();
                 let harmless = match other {
                     _ if other.refused() => true,
-                    Item::Byte { faulty, .. } => faulty || opened && port == Some(Port::Can),
+                    Item::Byte { .. } if opened => port == Some(Port::Can),
+                    Item::Byte { faulty, .. } => faulty,
                     Item::Frame { .. } if port == Some(Port::Serial) => opened || !other.opens(),
                     Item::Frame { identifier, .. } => opened && identifier == 0x011,
                 };
@@ -458,8 +537,7 @@ mod tests {
     fn demand_3_on_random_lists() {
         let mut rng = Xorshift(0x0BAD_CAFE);
         let before = rng.bytes(65_536);
-        let mut jumped = [0; 2];
-        let mut not_jumped = 0;
+        let mut seen = [[0; 13]; 2];
         for _ in 0..4_000 {
             let selected = match rng.below(4) {
                 0 => *b"\x00\x01\xFF\xFE\x10\x00\x00\x0F",
@@ -467,14 +545,47 @@ mod tests {
                 _ => PUBLIC,
             };
             let items = list(&mut rng, selected);
-            if demand_3(selected, &before, &items) {
-                jumped[usize::from(picked(&items) == Some(Port::Can))] += 1;
-            } else {
-                not_jumped += 1;
+            let end = demand_3(selected, &before, &items);
+            let can = usize::from(picked(&items) == Some(Port::Can));
+            seen[can][usize::from(end.unwrap_or(0))] += 1;
+        }
+        let [serial, can] = seen;
+        assert!(serial[5] > 500 && can[5] > 500, "{seen:?}");
+        assert!(serial[12] > 50 && can[12] == 0, "{seen:?}");
+        for number in [0, 2, 3, 4] {
+            assert!(serial[number] > 10 && can[number] > 10, "{seen:?}");
+        }
+    }
+
+    /// 02, E2: downloads by both ports with many faulty bytes, in half of the lists only
+    /// ahead of the download and behind it.
+    #[test]
+    fn demand_3_on_faulty_lists() {
+        let mut rng = Xorshift(0xFA_0175);
+        let before = rng.bytes(65_536);
+        let (mut seen, mut stopped) = ([0; 13], [0; 3]);
+        for _ in 0..4_000 {
+            let download = download(&mut rng, PUBLIC);
+            let (inside, seldom) = (rng.one_in(2), 2 + rng.below(40));
+            let mut items = Vec::new();
+            for (i, item) in download.iter().enumerate() {
+                while (i == 0 || inside) && rng.one_in(seldom) {
+                    items.push(faulty(rng.next() as u8));
+                }
+                items.push(item.clone());
+            }
+            items.extend((0..rng.below(3)).map(|i| faulty(i as u8)));
+            let end = demand_3(PUBLIC, &before, &items);
+            seen[usize::from(end.unwrap_or(0))] += 1;
+            if end == Some(12) {
+                // Within the password, the header or the data.
+                stopped[(plain(&items).len() / 8).min(2)] += 1;
             }
         }
-        let [serial, can] = jumped;
-        assert!(serial > 500 && can > 500 && not_jumped > 500);
+        for number in [0, 2, 3, 4, 5, 12] {
+            assert!(seen[number] > 10, "{seen:?}");
+        }
+        assert!(stopped.iter().all(|&count| count > 100), "{stopped:?}");
     }
 
     /// Lists with no download in mind.
@@ -482,13 +593,13 @@ mod tests {
     fn demand_3_on_any_items() {
         let mut rng = Xorshift(0xF1A7);
         let before = rng.bytes(65_536);
-        let mut without_opening = 0;
+        let (mut without_opening, mut faults) = (0, 0);
         for _ in 0..2_000 {
             let count = rng.below(40);
             let items: Vec<Item> = (0..count).map(|_| any_item(&mut rng)).collect();
-            demand_3(PUBLIC, &before, &items);
+            faults += usize::from(demand_3(PUBLIC, &before, &items) == Some(12));
             without_opening += usize::from(picked(&items).is_none());
         }
-        assert!(without_opening > 20);
+        assert!(without_opening > 20 && faults > 100);
     }
 }

@@ -63,7 +63,7 @@ const fn entry(
 /// The rows of a boot choice, or number 11 where they are those of an external boot.
 /// A choice has accepted no header.
 pub fn choice_rows(mode: Mode) -> Result<[Row; 5], u8> {
-    rows(mode, None)
+    rows(mode, false)
 }
 
 /// The rows of a session: number 8 where it is not sound, then 11 where they are those
@@ -75,8 +75,8 @@ pub fn session_rows(session: &Session) -> Result<[Row; 5], u8> {
     rows(Mode::Serial(session.entered), session.accepted_vle())
 }
 
-/// `vle` is the bit of the header that was accepted, if one was.
-fn rows(mode: Mode, vle: Option<bool>) -> Result<[Row; 5], u8> {
+/// `vle` tells whether a header with VLE 1 was accepted.
+fn rows(mode: Mode, vle: bool) -> Result<[Row; 5], u8> {
     // 000, 16.3.2.3.1: serial boot has the internal set-up if it was entered directly
     // or from internal boot, and the external one if it was entered from there.
     match mode {
@@ -87,7 +87,7 @@ fn rows(mode: Mode, vle: Option<bool>) -> Result<[Row; 5], u8> {
     // is clear where no header was accepted.
     let mut rows = TABLE_16_2;
     for row in &mut rows[1..=3] {
-        row.vle = vle == Some(true);
+        row.vle = vle;
     }
     Ok(rows)
 }
@@ -97,8 +97,8 @@ mod tests {
     use super::*;
     use crate::boot::choose;
     use crate::session::tests::{
-        any_item, any_session, clean, frame, header, memory, not_sound, sound, Xorshift, ENTRIES,
-        PUBLIC,
+        any_item, any_session, clean, faulty, frame, header, memory, not_sound, sound, stopped,
+        Xorshift, ENTRIES, PUBLIC,
     };
     use crate::session::{Item, Port, Stage};
 
@@ -187,7 +187,7 @@ mod tests {
 
     #[test]
     fn vle_is_set_on_entries_1_to_3_where_a_header_with_vle_1_was_accepted() {
-        let mut seen = [0; 6];
+        let mut seen = [0; 7];
         for session in sound() {
             if session.entered == Entered::FromExternal {
                 continue;
@@ -198,9 +198,14 @@ mod tests {
                 Stage::Header { .. } => (2, CLEAR),
                 Stage::Data { vle: true, .. } => (3, SET),
                 Stage::Data { vle: false, .. } => (3, CLEAR),
-                Stage::Stopped { .. } => (4, CLEAR),
-                Stage::Jumped { vle: true, .. } => (5, SET),
-                Stage::Jumped { vle: false, .. } => (5, CLEAR),
+                // Only a faulty byte stops a session that has accepted a header.
+                Stage::Stopped {
+                    number: 12,
+                    vle: true,
+                } => (4, SET),
+                Stage::Stopped { .. } => (5, CLEAR),
+                Stage::Jumped { vle: true, .. } => (6, SET),
+                Stage::Jumped { vle: false, .. } => (6, CLEAR),
             };
             assert_eq!(vle(&session), expected, "{session:?}");
             seen[stage] += 1;
@@ -235,6 +240,35 @@ mod tests {
         }
     }
 
+    /// 02, E2: the rows keep the VLE of a header accepted before the faulty byte, and
+    /// what is left of the load does not change them. A faulty byte before the opening,
+    /// or in a load by CAN, ends nothing.
+    #[test]
+    fn vle_is_kept_where_a_faulty_byte_ends_the_load() {
+        for (port, header_in) in [(Port::Can, 2), (Port::Serial, 16)] {
+            for (size, accepted) in [(2, CLEAR), (0x8000_0002, SET)] {
+                let load = load(port, &PUBLIC, &header(BASE, size));
+                for place in 0..load.len() {
+                    let mut session = Session::fresh(Entered::Asked, PUBLIC);
+                    let mut sram = memory();
+                    for item in &load[..place] {
+                        session.item(&mut sram, item);
+                    }
+                    let answer = session.item(&mut sram, &faulty(0x80));
+                    let ends = port == Port::Serial && place > 0;
+                    assert_eq!(answer.number, if ends { 12 } else { 1 });
+                    let expected = if place < header_in { CLEAR } else { accepted };
+                    assert_eq!(vle(&session), expected, "{place} of {port:?}");
+                    for item in &load[place..] {
+                        session.item(&mut sram, item);
+                    }
+                    let expected = if ends { expected } else { accepted };
+                    assert_eq!(vle(&session), expected, "{place} of {port:?}");
+                }
+            }
+        }
+    }
+
     /// Neither a header that is refused nor one behind a wrong password was accepted.
     #[test]
     fn vle_is_clear_where_the_header_was_refused() {
@@ -254,7 +288,7 @@ mod tests {
                     session.item(&mut memory(), &item);
                     assert_eq!(vle(&session), CLEAR);
                 }
-                assert_eq!(session.stage, Stage::Stopped { number });
+                assert_eq!(session.stage, stopped(number));
             }
         }
     }
@@ -314,6 +348,7 @@ mod tests {
     fn rows_of_any_session() {
         let mut rng = Xorshift(0x0003_0255);
         let mut seen = [0; 12];
+        let mut faults = 0;
         for _ in 0..20_000 {
             let mut session = any_session(&mut rng);
             for _ in 0..3 {
@@ -325,10 +360,17 @@ mod tests {
                 let regions = session_rows(&session).map(regions);
                 assert_eq!(regions, expected, "{session:?}");
                 seen[usize::from(expected.err().unwrap_or(0))] += 1;
-                session.item(&mut memory(), &any_item(&mut rng));
+                let before = session_rows(&session);
+                let answer = session.item(&mut memory(), &any_item(&mut rng));
+                // Only a header that is accepted changes the rows.
+                if answer.number != 0 {
+                    assert_eq!(session_rows(&session), before, "{session:?}");
+                }
+                faults += usize::from(answer.number == 12 && before.is_ok());
             }
         }
         assert!([0, 8, 11].iter().all(|&number| seen[number] > 0));
+        assert!(faults > 0);
     }
 
     #[test]

@@ -124,7 +124,7 @@ impl Replay {
             Stage::Password { .. } => "password".to_string(),
             Stage::Header { .. } => "header".to_string(),
             Stage::Data { .. } => "data".to_string(),
-            Stage::Stopped { number } => format!("stopped {number}"),
+            Stage::Stopped { number, .. } => format!("stopped {number}"),
             Stage::Jumped { start, .. } => format!("jump {start:08X}"),
         };
         self.text
@@ -234,6 +234,7 @@ mod tests {
                 "1 0 FEEDFACECAFEBEEF\n2 3 4000000000000000\nend stopped 3\n"),
             (vec![password(), can(0x012, &all(65_537))],
                 "1 0 FEEDFACECAFEBEEF\n2 4 4000000000010001\nend stopped 4\n"),
+            (vec![clean(0xFE), faulty(0xED)], "1 0 FE\n2 12 -\nend stopped 12\n"),
             // The start address has lost its two lowest bits, the echo has them.
             (vec![password(), can(0x012, &word), can(0x013, &[0, 1, 0xAB, 0xFF])],
                 "1 0 FEEDFACECAFEBEEF\n2 0 4000FFFE00000004\n3 5 0001ABFF\nend jump 4000FFFC\n"),
@@ -276,6 +277,58 @@ mod tests {
         for before in [&after[..], &[can(0x011, &[7; 8])]] {
             let text = lines(&[before, &[reset()]].concat());
             assert!(text.ends_with(" 0 -\nend waiting\n"));
+        }
+    }
+
+    /// 02, E2: kind 3 before the opening, on CAN, after the opening and in a session that
+    /// has stopped or jumped.
+    #[test]
+    fn faulty_bytes_in_captures() {
+        let (header, data) = (can(0x012, &header(BASE, 1)), can(0x013, &[9]));
+        #[rustfmt::skip]
+        let rows = [
+            (vec![faulty(1), password(), faulty(2), header, faulty(3), data, faulty(4)],
+                "1 1 -\n2 0 FEEDFACECAFEBEEF\n3 1 -\n4 0 4000000000000001\n5 1 -\n6 5 09\n7 1 -\n\
+                 end jump 40000000\n"),
+            (vec![faulty(1), clean(2), faulty(3), faulty(4), clean(5), password()],
+                "1 1 -\n2 0 02\n3 12 -\n4 1 -\n5 1 -\n6 1 -\nend stopped 12\n"),
+            (vec![clean(2), faulty(3), reset(), faulty(4), password()],
+                "1 0 02\n2 12 -\n3 0 -\n4 1 -\n5 0 FEEDFACECAFEBEEF\nend header\n"),
+            (vec![can(0x011, &[7; 8]), faulty(1)], "1 2 0707070707070707\n2 1 -\nend stopped 2\n"),
+            (vec![clean(2), faulty(3), vec![0]], "1 0 02\n2 12 -\n3 10 -\nend stopped 12\n"),
+        ];
+        for (records, expected) in rows {
+            assert_eq!(lines(&records), expected);
+            streams(&records.concat());
+        }
+    }
+
+    /// One at every place of a load of two bytes, and one at its end.
+    #[test]
+    fn faulty_bytes_in_a_serial_load() {
+        let load = [&PUBLIC[..], &header(BASE, 2), &[7, 8]].concat();
+        for place in 0..=18 {
+            let stops = (1..18).contains(&place);
+            let mut answers: Vec<String> =
+                load.iter().map(|byte| format!("0 {byte:02X}")).collect();
+            answers[17] = "5 08".to_string();
+            if stops {
+                answers[place..].fill("1 -".to_string());
+            }
+            answers.insert(place, if stops { "12 -" } else { "1 -" }.to_string());
+            answers.push("1 -".to_string());
+            let mut expected = String::new();
+            for (count, answer) in (1..).zip(answers) {
+                expected += &format!("{count} {answer}\n");
+            }
+            expected += if stops {
+                "end stopped 12\n"
+            } else {
+                "end jump 40000000\n"
+            };
+            let (before, after) = load.split_at(place);
+            let records = [serial(before), faulty(8), serial(after), faulty(8)];
+            assert_eq!(lines(&records), expected);
         }
     }
 
@@ -587,7 +640,7 @@ mod tests {
     #[test]
     fn any_capture_prints_the_answers_of_the_session() {
         let mut rng = Xorshift(0xCA97);
-        let mut seen = [0; 6];
+        let mut seen = [0; 13];
         for _ in 0..300 {
             let mut capture = Vec::new();
             let mut expected = String::new();
@@ -615,6 +668,8 @@ mod tests {
             assert_eq!(replay.sram, sram);
             streams(&capture[..capture.len().min(1_500)]);
         }
-        assert!(seen.iter().all(|&count| count > 20), "{seen:?}");
+        for number in [0, 1, 2, 3, 4, 5, 12] {
+            assert!(seen[number] > 20, "{seen:?}");
+        }
     }
 }

@@ -207,7 +207,7 @@ impl Sender {
 mod tests {
     use super::*;
     use crate::boot::Entered;
-    use crate::session::tests::{clean, frame, header, memory, Xorshift, PUBLIC};
+    use crate::session::tests::{clean, frame, header, memory, stopped, Xorshift, PUBLIC};
     use crate::session::{load, plain, Echo, Load, Session, Stage};
 
     const BASE: u32 = 0x4000_0000;
@@ -430,9 +430,49 @@ mod tests {
                 assert_eq!(verdict, Verdict::Abandoned);
                 let list = listed(port, password, HEADER, &[7; 5_120]);
                 assert!(items.iter().eq(list[..count].iter().map(|(item, _)| item)));
-                assert_eq!(head.stage, Stage::Stopped { number: 2 });
+                assert_eq!(head.stage, stopped(2));
                 assert_eq!(sram, memory());
             }
+        }
+    }
+
+    /// 02, E2: the head echoes no faulty byte, so the load it ends is abandoned here too.
+    /// The first byte leaves the head waiting.
+    #[test]
+    fn a_byte_that_the_line_makes_faulty_ends_abandoned() {
+        let image = Xorshift(0xFA17).bytes(5);
+        let list = listed(Port::Serial, PUBLIC, header(BASE, 0x8000_0005), &image);
+        for place in 0..list.len() {
+            let (_, mut sender) = Sender::begin(Port::Serial, BASE, true, PUBLIC, 5);
+            let (mut head, mut sram) = (head(PUBLIC), memory());
+            for (_, echo) in &list[..place] {
+                let (_, item) = sender.ask(&image);
+                assert_eq!(
+                    head.item(&mut sram, &item.unwrap()).echo.as_ref(),
+                    Some(echo)
+                );
+                let told = sender.tell(&image, &heard(Port::Serial, Some(echo)));
+                assert_eq!(told, (0, Some(Verdict::GoesOn)));
+            }
+            let (_, Some(Item::Byte { value, .. })) = sender.ask(&image) else {
+                panic!("{sender:?}");
+            };
+            let faulty = true;
+            let answer = head.item(&mut sram, &Item::Byte { value, faulty });
+            assert_eq!(answer.number, if place == 0 { 1 } else { 12 });
+            let told = sender.tell(&image, &heard(Port::Serial, answer.echo.as_ref()));
+            assert_eq!(told, (0, Some(Verdict::Abandoned)));
+            assert_eq!(sender, NONE_GOING);
+
+            let (number, vle) = (12, place >= 16);
+            let expected = match place {
+                0 => Stage::Waiting,
+                _ => Stage::Stopped { number, vle },
+            };
+            assert_eq!(head.stage, expected);
+            let stored = place.saturating_sub(16);
+            assert_eq!(sram[..stored], image[..stored]);
+            assert_eq!(sram[stored..], memory()[stored..]);
         }
     }
 

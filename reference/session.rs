@@ -1,5 +1,6 @@
 //! The serial session: document 01, "A serial session" and "What the head says back";
-//! source document 003, section 21.5.5.4; source document 002, sections 4 and 5.
+//! document 02, E2; source document 003, section 21.5.5.4; source document 002, sections
+//! 4 and 5.
 //!
 //! The synchronization byte and message of 002, 4.1.3 and 5.4 belong to baud rate
 //! detection, which is left out: a clean byte 0x00 opens serial like any other, and a
@@ -42,8 +43,11 @@ pub enum Stage {
         owed: u32,
     },
     Stopped {
-        /// 2, 3 or 4.
+        /// 2, 3, 4 or 12.
         number: u8,
+        /// The VLE bit of the header that was accepted before the stop, clear where none
+        /// was.
+        vle: bool,
     },
     Jumped {
         start: u32,
@@ -87,6 +91,8 @@ const LAST_BYTE_STORED: u8 = 5;
 const FRAME_FORM: u8 = 6;
 const SRAM_LENGTH: u8 = 7;
 pub(crate) const NOT_SOUND: u8 = 8;
+/// 02, E2.
+const FAULTY_BYTE: u8 = 12;
 
 /// 01, "A serial session": SRAM is 65,536 bytes at 0x4000_0000.
 const SRAM_BASE: u32 = 0x4000_0000;
@@ -233,8 +239,9 @@ impl Session {
     }
 
     /// 01, "A session is sound if its counts fit its stage". The sentence asks nothing
-    /// of a stopped session's number, of a jumped session's start, of the selected
-    /// password or of how serial boot was entered, so any value of these is sound.
+    /// of a stopped session's number or VLE bit, of a jumped session's start, of the
+    /// selected password or of how serial boot was entered, so any value of these is
+    /// sound.
     pub fn sound(&self) -> bool {
         let held = self.held.len();
         match self.stage {
@@ -256,15 +263,21 @@ impl Session {
         }
     }
 
-    /// The VLE bit of the header that was accepted. A session has accepted one if it
-    /// waits for data or has jumped; a header that is refused stops it.
-    pub(crate) fn accepted_vle(&self) -> Option<bool> {
+    /// Whether a header with VLE 1 was accepted. A session has accepted a header if it
+    /// waits for data or has jumped. Of the stops only that by a faulty byte may come
+    /// after it: with any other number no header was accepted, whatever the bit beside it.
+    pub(crate) fn accepted_vle(&self) -> bool {
         match self.stage {
-            Stage::Data { vle, .. } | Stage::Jumped { vle, .. } => Some(vle),
+            Stage::Data { vle, .. }
+            | Stage::Jumped { vle, .. }
+            | Stage::Stopped {
+                number: FAULTY_BYTE,
+                vle,
+            } => vle,
             Stage::Waiting
             | Stage::Password { .. }
             | Stage::Header { .. }
-            | Stage::Stopped { .. } => None,
+            | Stage::Stopped { .. } => false,
         }
     }
 
@@ -288,6 +301,9 @@ impl Session {
         }
         if item.refused() {
             return Reply::only(FRAME_FORM);
+        }
+        if self.on_serial() && matches!(item, Lent::Byte { faulty: true, .. }) {
+            return Reply::only(self.stop(FAULTY_BYTE));
         }
         if !self.takes(item) {
             return Reply::only(IGNORED);
@@ -335,7 +351,22 @@ impl Session {
         }
     }
 
-    /// 01, "A serial session": whether an item of allowed form is taken or ignored.
+    /// Whether serial has opened the session and its load still goes on. Only then does
+    /// a faulty byte end it (02, E2).
+    fn on_serial(&self) -> bool {
+        matches!(
+            self.stage,
+            Stage::Password { port: Port::Serial }
+                | Stage::Header { port: Port::Serial }
+                | Stage::Data {
+                    port: Port::Serial,
+                    ..
+                }
+        )
+    }
+
+    /// 01, "A serial session": whether an item is taken or ignored. A frame refused for
+    /// its form and a faulty byte that ends the load are answered before.
     fn takes(&self, item: Lent) -> bool {
         match (&self.stage, item) {
             (Stage::Waiting, _) => item.opens(),
@@ -354,16 +385,10 @@ impl Session {
                     && (1..=8).contains(&data.len())
                     && data.len() as u64 <= u64::from(*owed)
             }
-            (
-                Stage::Password { port: Port::Serial }
-                | Stage::Header { port: Port::Serial }
-                | Stage::Data {
-                    port: Port::Serial, ..
-                },
-                Lent::Byte { faulty, .. },
-            ) => !faulty,
-            // The other port's items; all items of a stopped or jumped session.
-            _ => false,
+            // A CAN session, and a stopped or jumped one, ignores every byte.
+            (_, Lent::Byte { faulty, .. }) => self.on_serial() && !faulty,
+            // A serial session, and a stopped or jumped one, ignores every frame.
+            (_, Lent::Frame { .. }) => false,
         }
     }
 
@@ -404,7 +429,9 @@ impl Session {
     }
 
     fn stop(&mut self, number: u8) -> u8 {
-        self.stage = Stage::Stopped { number };
+        let vle = self.accepted_vle();
+        self.held.clear();
+        self.stage = Stage::Stopped { number, vle };
         number
     }
 }
@@ -495,6 +522,12 @@ pub(crate) mod tests {
         }
     }
 
+    /// Stopped before a header was accepted.
+    pub(crate) fn stopped(number: u8) -> Stage {
+        let vle = false;
+        Stage::Stopped { number, vle }
+    }
+
     fn data(port: Port, start: u32, next: u32, owed: u32) -> Stage {
         let vle = true;
         Stage::Data {
@@ -577,7 +610,7 @@ pub(crate) mod tests {
                     (number, Some((start, vle, owed)))
                 }
                 stage => {
-                    assert_eq!(stage, Stage::Stopped { number });
+                    assert_eq!(stage, stopped(number));
                     (number, None)
                 }
             }
@@ -639,7 +672,7 @@ pub(crate) mod tests {
             let password = *b"\xFE\xED\x00\x00\xCA\xFE\xBE\xEF";
             let (number, session) = password_gets(port, password, password);
             assert_eq!(number, 2);
-            assert_eq!(session.stage, Stage::Stopped { number: 2 });
+            assert_eq!(session.stage, stopped(2));
         }
     }
 
@@ -823,7 +856,7 @@ pub(crate) mod tests {
 
     /// One sound session of each stage and port.
     fn stages() -> Vec<Session> {
-        let (start, vle) = (BASE, true);
+        let (start, number, vle) = (BASE, 12, true);
         vec![
             at(Stage::Waiting, 0),
             at(Stage::Password { port: Port::Serial }, 4),
@@ -831,9 +864,11 @@ pub(crate) mod tests {
             at(data(Port::Serial, BASE, BASE + 5, 20), 0),
             at(Stage::Header { port: Port::Can }, 0),
             at(data(Port::Can, BASE, BASE + 5, 20), 0),
-            at(Stage::Stopped { number: 2 }, 0),
-            at(Stage::Stopped { number: 3 }, 0),
-            at(Stage::Stopped { number: 4 }, 0),
+            at(stopped(2), 0),
+            at(stopped(3), 0),
+            at(stopped(4), 0),
+            at(stopped(12), 0),
+            at(Stage::Stopped { number, vle }, 0),
             at(Stage::Jumped { start, vle }, 0),
         ]
     }
@@ -887,11 +922,10 @@ pub(crate) mod tests {
     }
 
     #[test]
-    fn clean_bytes_are_taken_and_faulty_ones_ignored() {
+    fn clean_bytes_are_taken() {
         let before = memory();
         for session in stages() {
             for value in 0..=255 {
-                unmoved(&session, &before, &faulty(value), 1);
                 if !hears(&session, Port::Serial) {
                     unmoved(&session, &before, &clean(value), 1);
                     continue;
@@ -911,6 +945,71 @@ pub(crate) mod tests {
         }
     }
 
+    /// 02, E2. The last column: nothing where the byte is ignored, and otherwise the VLE
+    /// bit that the stop by 12 keeps.
+    #[test]
+    fn a_faulty_byte_in_every_stage() {
+        let (can, serial) = (Port::Can, Port::Serial);
+        let (start, number, vle) = (BASE, 12, true);
+        let owed = |port, vle, owed| Stage::Data {
+            port,
+            start,
+            vle,
+            next: BASE + 65_536 - owed,
+            owed,
+        };
+        #[rustfmt::skip]
+        let rows = [
+            (Stage::Waiting,                   0, None),
+            (Stage::Password { port: serial }, 1, Some(false)),
+            (Stage::Password { port: serial }, 7, Some(false)),
+            (Stage::Header { port: serial },   0, Some(false)),
+            (Stage::Header { port: serial },   7, Some(false)),
+            (owed(serial, false, 65_536),      0, Some(false)),
+            (owed(serial, true, 65_536),       0, Some(true)),
+            (owed(serial, false, 1),           0, Some(false)),
+            (owed(serial, true, 1),            0, Some(true)),
+            (Stage::Header { port: can },      0, None),
+            (owed(can, true, 65_536),          0, None),
+            (owed(can, true, 1),               0, None),
+            (stopped(2),                       0, None),
+            (stopped(3),                       0, None),
+            (stopped(4),                       0, None),
+            (stopped(12),                      0, None),
+            (Stage::Stopped { number, vle },   0, None),
+            (Stage::Jumped { start, vle },     0, None),
+        ];
+        let before = memory();
+        for (stage, held, stops) in rows {
+            let session = Session {
+                entered: Entered::FromInternal,
+                selected: [7; 8],
+                ..at(stage, held)
+            };
+            for value in 0..=255 {
+                let item = faulty(value);
+                let Some(vle) = stops else {
+                    unmoved(&session, &before, &item, 1);
+                    continue;
+                };
+                let (mut after, mut sram) = (session.clone(), before.clone());
+                assert_eq!(after.item(&mut sram, &item), only(12), "{session:?}");
+                let expected = Session {
+                    stage: Stage::Stopped { number, vle },
+                    held: Vec::new(),
+                    ..session.clone()
+                };
+                assert_eq!(after, expected);
+                assert_eq!(sram, before);
+                // From then on a second one is ignored like all else.
+                unmoved(&after, &before, &item, 1);
+                for item in one_of_each() {
+                    unmoved(&after, &before, &item, 1);
+                }
+            }
+        }
+    }
+
     #[test]
     fn the_8th_password_byte_decides() {
         for wrong in 0..8 {
@@ -925,12 +1024,12 @@ pub(crate) mod tests {
             }
             let answer = session.item(&mut sram, &clean(password[7]));
             assert_eq!(answer, echoed(2, None, &password[7..]));
-            assert_eq!(session, at(Stage::Stopped { number: 2 }, 0));
+            assert_eq!(session, at(stopped(2), 0));
 
             let mut session = fresh(PUBLIC);
             let answer = session.item(&mut sram, &frame(0x011, &password));
             assert_eq!(answer, echoed(2, Some(0x001), &password));
-            assert_eq!(session, at(Stage::Stopped { number: 2 }, 0));
+            assert_eq!(session, at(stopped(2), 0));
             assert_eq!(sram, memory());
         }
     }
@@ -981,7 +1080,6 @@ pub(crate) mod tests {
     fn numbers_0_to_5_in_one_row_each() {
         let can = Port::Can;
         let header = || Stage::Header { port: can };
-        let stopped = |number| Stage::Stopped { number };
         let data = |next, owed| data(can, BASE, next, owed);
         let (start, vle) = (BASE, true);
         #[rustfmt::skip]
@@ -1062,6 +1160,12 @@ pub(crate) mod tests {
         unmoved(&bad, &right, &refused, 8);
         unmoved(&bad, &right, &taken, 8);
         unmoved(&good, &right, &refused, 6);
+        // Where a faulty byte would end the load.
+        let [good, bad] = [7, 8].map(|held| at(Stage::Password { port: Port::Serial }, held));
+        unmoved(&bad, &short, &faulty(1), 7);
+        unmoved(&good, &short, &faulty(1), 7);
+        unmoved(&bad, &right, &faulty(1), 8);
+        unmoved(&good, &right, &refused, 6);
         // Where the rules would ignore the item.
         let (start, vle) = (0, false);
         unmoved(&at(Stage::Jumped { start, vle }, 0), &right, &refused, 6);
@@ -1105,7 +1209,9 @@ pub(crate) mod tests {
         }
         // Nothing is asked of these fields.
         for number in 0..=255 {
-            sessions.push(at(Stage::Stopped { number }, 0));
+            for vle in [false, true] {
+                sessions.push(at(Stage::Stopped { number, vle }, 0));
+            }
         }
         for start in [0, 1, BASE, BASE + 3, end, u32::MAX] {
             for vle in [false, true] {
@@ -1128,7 +1234,7 @@ pub(crate) mod tests {
 
     pub(crate) fn not_sound() -> Vec<Session> {
         let end = BASE + 65_536;
-        let (start, vle) = (BASE, false);
+        let (start, number, vle) = (BASE, 12, true);
         let mut sessions = Vec::new();
         // The password stage is serial's alone.
         for held in 0..=9 {
@@ -1148,7 +1254,8 @@ pub(crate) mod tests {
                 Stage::Header { port: Port::Can },
                 data(Port::Can, BASE, BASE, 1),
                 data(Port::Serial, BASE, BASE, 1),
-                Stage::Stopped { number: 2 },
+                stopped(2),
+                Stage::Stopped { number, vle },
                 Stage::Jumped { start, vle },
             ] {
                 sessions.push(at(stage, held));
@@ -1211,10 +1318,11 @@ pub(crate) mod tests {
         let start = near.wrapping_add(rng.pick(&[0, 0, 0, 0, 1, 3, 4, !3]));
         let next = start.wrapping_add(rng.pick(&[0, 0, 1, 4, !0]));
         let owed = rng.pick(&[0, 1, 1, 2, 3, 4, 8, 65_528, 65_536, 1 << 31, !0]);
-        let number = rng.below(256) as u8;
+        let any = rng.below(256) as u8;
+        let number = rng.pick(&[2, 3, 4, 12, 12, any]);
         let stage = match rng.below(12) {
             0 => Stage::Waiting,
-            1 => Stage::Stopped { number },
+            1 => Stage::Stopped { number, vle },
             2 => Stage::Jumped { start, vle },
             3 | 4 => Stage::Password { port },
             5 | 6 => Stage::Header { port },
@@ -1262,9 +1370,9 @@ pub(crate) mod tests {
     }
 
     #[test]
-    fn every_call_is_answered_and_only_0_to_5_move_anything() {
+    fn every_call_is_answered_and_only_0_to_5_and_12_move_anything() {
         let mut rng = Xorshift(0x5E55_1011);
-        let mut seen = [0; 9];
+        let mut seen = [0; 13];
         let before = memory();
         for _ in 0..40_000 {
             let session = any_session(&mut rng);
@@ -1279,6 +1387,10 @@ pub(crate) mod tests {
 
             assert_eq!(answer.number == 7, sram.len() != SIZE);
             assert_eq!(answer.number == 8, sram.len() == SIZE && !session.sound());
+            let fault = matches!(item, Item::Byte { faulty: true, .. });
+            let opened = session.stage != Stage::Waiting && hears(&session, Port::Serial);
+            let due = sram.len() == SIZE && session.sound() && opened && fault;
+            assert_eq!(answer.number == 12, due);
             if session.sound() {
                 assert!(after.sound());
             }
@@ -1288,6 +1400,10 @@ pub(crate) mod tests {
             if matches!(answer.number, 1 | 6 | 7 | 8) {
                 assert_eq!(answer, only(answer.number));
                 assert_eq!(after, session);
+            } else if answer.number == 12 {
+                assert_eq!(answer, only(12));
+                let vle = matches!(session.stage, Stage::Data { vle: true, .. });
+                assert_eq!(after.stage, Stage::Stopped { number: 12, vle });
             } else {
                 assert_ne!(after, session);
                 let echo = answer.echo.as_ref().unwrap();
@@ -1304,6 +1420,8 @@ pub(crate) mod tests {
             }
             assert_eq!(then, sram);
         }
-        assert!(seen.iter().all(|&count| count > 0), "{seen:?}");
+        for number in (0..=8).chain([12]) {
+            assert!(seen[number] > 0, "{seen:?}");
+        }
     }
 }

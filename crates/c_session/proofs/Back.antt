@@ -73,6 +73,7 @@ stage-back configuration held count (Stage.Data Port.Serial load) = rw (flag-bac
 stage-back configuration held count (Stage.Stopped Refusal.Password) = refl
 stage-back configuration held count (Stage.Stopped Refusal.Length) = refl
 stage-back configuration held count (Stage.Stopped Refusal.Range) = refl
+stage-back configuration held count (Stage.Stopped (Refusal.FaultyByte vle)) = rw (flag-back vle)
 stage-back configuration held count (Stage.Jumped jump) = rw (flag-back (jump .vle))
 
 -- what a session's memory holds

@@ -50,7 +50,10 @@ loadRead numbers =
 
 unfoldable pub refusalRead : List ℕ → Refusal
 refusalRead numbers =
-    cond (eqb (numberAt numbers 23) 2) Refusal.Password (cond (eqb (numberAt numbers 23) 3) Refusal.Length Refusal.Range)
+    cond (eqb (numberAt numbers 23) 2) Refusal.Password
+    (cond (eqb (numberAt numbers 23) 3) Refusal.Length
+    (cond (eqb (numberAt numbers 23) 4) Refusal.Range
+    (Refusal.FaultyByte (eqb (numberAt numbers 20) 1))))
 
 abbrev pub jumpRead : List ℕ → Jump
 jumpRead numbers = record { start = record { 0 = numberAt numbers 19 }; vle = eqb (numberAt numbers 20) 1 }

@@ -6,6 +6,7 @@ use Rattle.session_configuration.specs.declared.Configuration.{Configuration}
 use Rattle.session_state.specs.declared.Port.{Port}
 use Rattle.session_state.specs.declared.Session.{Session}
 use Rattle.session_state.specs.declared.Stage.{Stage}
+use Rattle.session_state.specs.Accepted.{acceptedVle}
 use Rattle.session_answers.specs.Answers.{refusalNumber}
 use Rattle.c_answer.specs.Writing.{bit, enteredNumber}
 
@@ -30,13 +31,13 @@ portIn (Stage.Data port load) = portNumber port
 portIn (Stage.Stopped refusal) = 0
 portIn (Stage.Jumped jump) = 0
 
--- start, VLE, next address and bytes owed of a load, and the number that stopped a session
+-- start, VLE, next address and bytes owed of a load, and the number that stopped a session, with the VLE of the header that it had accepted
 abbrev pub loadNumbers : Stage → List ℕ
 loadNumbers Stage.Waiting = 0 ∷ 0 ∷ 0 ∷ 0 ∷ 0 ∷ []
 loadNumbers Stage.Password = 0 ∷ 0 ∷ 0 ∷ 0 ∷ 0 ∷ []
 loadNumbers (Stage.Header port) = 0 ∷ 0 ∷ 0 ∷ 0 ∷ 0 ∷ []
 loadNumbers (Stage.Data port load) = load .start .0 ∷ bit (load .vle) ∷ load .next ∷ load .owed ∷ 0 ∷ []
-loadNumbers (Stage.Stopped refusal) = 0 ∷ 0 ∷ 0 ∷ 0 ∷ refusalNumber refusal ∷ []
+loadNumbers (Stage.Stopped refusal) = 0 ∷ bit (acceptedVle (Stage.Stopped refusal)) ∷ 0 ∷ 0 ∷ refusalNumber refusal ∷ []
 loadNumbers (Stage.Jumped jump) = jump .start .0 ∷ bit (jump .vle) ∷ 0 ∷ 0 ∷ 0 ∷ []
 
 -- what else a configuration has beside its password: how serial boot was entered

@@ -72,7 +72,7 @@ fn load_numbers(stage: Stage) -> [u32; 5]
         ],
         Stage::Stopped(refusal) => [
             0,
-            0,
+            c_answer::flag(session_state::accepted_vle(stage)),
             0,
             0,
             c_answer::wide(session_answers::refusal_number(refusal)),
@@ -200,7 +200,8 @@ fn read_refusal(numbers: &[u32]) -> Refusal
     match number {
         2 => Refusal::Password,
         3 => Refusal::Length,
-        _ => Refusal::Range,
+        4 => Refusal::Range,
+        _ => Refusal::FaultyByte(number_at(numbers, 20) == 1),
     }
 }
 

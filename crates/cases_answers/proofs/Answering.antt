@@ -15,6 +15,7 @@ use Rattle.session_state.specs.declared.Port.{Port}
 use Rattle.session_state.specs.declared.Refusal.{Refusal}
 use Rattle.session_state.specs.declared.Session.{Session}
 use Rattle.session_state.specs.declared.Stage.{Stage}
+use Rattle.session_state.specs.Accepted.{acceptedVle}
 use Rattle.session_state.specs.Sound.{sound}
 use Rattle.header.specs.declared.Validated.{Validated}
 use Rattle.header.specs.Reading.{headerRead, announcesNone, within, validated}
@@ -22,13 +23,13 @@ use Rattle.session_items.specs.declared.Reaction.{Reaction}
 use Rattle.session_items.specs.declared.Role.{Role}
 use Rattle.session_items.specs.declared.Source.{Source}
 use Rattle.session_items.specs.Items.{Item, wellFormed, portOf, bytesOf}
-use Rattle.session_items.specs.Reacting.{eightUnder, dataFitting, cleanByte, countsAs, reaction}
-use Rattle.session_items.proofs.Laws.{by-hearing}
+use Rattle.session_items.specs.Reacting.{eightUnder, dataFitting, cleanByte, faultyByte, countsAs, stopsBy, heardOpened, reaction}
+use Rattle.session_items.proofs.Laws.{by-hearing, by-hearing-opened}
 use Rattle.session_answers.specs.declared.Outcome.{Outcome}
-use Rattle.session_answers.specs.Answers.{outcomeNumber, precheck, underPort, echoUnder, echoIdentifier, unchanged}
+use Rattle.session_answers.specs.Answers.{outcomeNumber, precheck, underPort, echoUnder, noEcho, echoIdentifier, unchanged}
 use Rattle.session.specs.declared.Transition.{Transition}
 use Rattle.session.specs.Rules.{received, enters, stops, holds, checked, begun, loaded, jumpOf, advanced, passwordReceived, headerReceived, transition, sramAfter, takenAs, step}
-use Rattle.cases_answers.specs.Rows.{wrongPassword, lengthZero, notInSram, lastStored, takenNumber, numberDue, changesNothing, echoedUnder, stageAfter}
+use Rattle.cases_answers.specs.Rows.{wrongPassword, lengthZero, notInSram, lastStored, takenNumber, serialGoing, leftNumber, numberDue, changesNothing, sendsEcho, echoedUnder, stageAfter}
 
 module _ (session : Session) where
   password-number : (port : Port) (all : List ℕ) (a b : Bool) → eqb (length all) 8 ≡ a
@@ -69,17 +70,25 @@ module _ (session : Session) where
       header-number port all (eqb (length all) 8) (announcesNone header) (within (session .configuration) header) refl refl refl
   taken-number (Role.Data load) port bytes = data-number port load bytes (eqb (length bytes) (load .owed)) refl
 
-  -- its number is none of those that change nothing
-  taken-changes : (role : Role) (bytes : List ℕ) → changesNothing (takenNumber role session bytes) ≡ false
-  taken-changes Role.Password bytes =
-      by-test (λ (n : ℕ). changesNothing n ≡ false) 2 0 (wrongPassword session (received session bytes)) (λ e. refl) (λ e. refl)
-  taken-changes Role.Header bytes =
+  -- its number is 0 or 2 to 5
+  taken-as : (P : ℕ → Type 0) → P 0 → P 2 → P 3 → P 4 → P 5 → (role : Role) (bytes : List ℕ) → P (takenNumber role session bytes)
+  taken-as P zero two three four five Role.Password bytes =
+      by-test P 2 0 (wrongPassword session (received session bytes)) (λ e. two) (λ e. zero)
+  taken-as P zero two three four five Role.Header bytes =
       let all = received session bytes in
-      let changes : ℕ → Type 0 = λ n. changesNothing n ≡ false in
-      by-test changes 3 (cond (notInSram session all) 4 0) (lengthZero session all) (λ e. refl)
-      (λ e. by-test changes 4 0 (notInSram session all) (λ f. refl) (λ f. refl))
-  taken-changes (Role.Data load) bytes =
-      by-test (λ (n : ℕ). changesNothing n ≡ false) 5 0 (lastStored load bytes) (λ e. refl) (λ e. refl)
+      by-test P 3 (cond (notInSram session all) 4 0) (lengthZero session all) (λ e. three)
+      (λ e. by-test P 4 0 (notInSram session all) (λ f. four) (λ f. zero))
+  taken-as P zero two three four five (Role.Data load) bytes = by-test P 5 0 (lastStored load bytes) (λ e. five) (λ e. zero)
+
+  taken-changes : (role : Role) (bytes : List ℕ) → changesNothing (takenNumber role session bytes) ≡ false
+  taken-changes role bytes = taken-as (λ (n : ℕ). changesNothing n ≡ false) refl refl refl refl refl role bytes
+
+  taken-echoed : (role : Role) (bytes : List ℕ) → sendsEcho (takenNumber role session bytes) ≡ true
+  taken-echoed role bytes = taken-as (λ (n : ℕ). sendsEcho n ≡ true) refl refl refl refl refl role bytes
+
+  not-twelve : (role : Role) (bytes : List ℕ) → takenNumber role session bytes ≡ 12 → ⊥
+  not-twelve role bytes =
+      taken-as (λ (n : ℕ). n ≡ 12 → ⊥) (λ e. omega arith) (λ e. omega arith) (λ e. omega arith) (λ e. omega arith) (λ e. omega arith) role bytes
 
   -- the stage after what the bytes do
   abbrev Named : Transition → Type 0
@@ -146,23 +155,30 @@ counted-echoed Role.Header Port.Can item e = eight-echoed 0x012 item e
 counted-echoed (Role.Data load) Port.Can item e = data-echoed (load .owed) item e
 counted-echoed role Port.Serial item e = clean-echoed item e
 
-abbrev EchoedBy : Item → Reaction → Type 0
-EchoedBy item Reaction.Ignores = Unit {0}
-EchoedBy item (Reaction.Takes role port) = echoedUnder item ≡ underPort port (echoIdentifier role)
+-- what a reaction says of the rows: the identifier of the echo, and whether the item is a faulty byte behind the opening of serial
+abbrev RowBy : Stage → Item → Reaction → Type 0
+RowBy stage item Reaction.Ignores = (serialGoing stage && faultyByte item) ≡ false
+RowBy stage item (Reaction.Takes role port) = echoedUnder item ≡ underPort port (echoIdentifier role)
+RowBy stage item Reaction.Stops = (serialGoing stage && faultyByte item) ≡ true
 
-echoed-by : (stage : Stage) (item : Item) → EchoedBy item (reaction stage item)
+row-opened : (stage : Stage) (role : Role) (port : Port) (item : Item)
+    → (serialGoing stage && faultyByte item) ≡ stopsBy port item
+    → RowBy stage item (heardOpened role port item)
+row-opened stage role port item same =
+    by-hearing-opened (RowBy stage item) role port item (counted-echoed role port item) (λ f e. same ∙ f) (λ f e. same ∙ f)
+
+row-by : (stage : Stage) (item : Item) → RowBy stage item (reaction stage item)
 unfolding reaction
-echoed-by Stage.Waiting item =
+row-by Stage.Waiting item =
     let port = portOf item in
-    by-hearing (EchoedBy item) Role.Password port item (counted-echoed Role.Password port item) (λ e. tt)
-echoed-by Stage.Password item =
-    by-hearing (EchoedBy item) Role.Password Port.Serial item (counted-echoed Role.Password Port.Serial item) (λ e. tt)
-echoed-by (Stage.Header port) item =
-    by-hearing (EchoedBy item) Role.Header port item (counted-echoed Role.Header port item) (λ e. tt)
-echoed-by (Stage.Data port load) item =
-    by-hearing (EchoedBy item) (Role.Data load) port item (counted-echoed (Role.Data load) port item) (λ e. tt)
-echoed-by (Stage.Stopped refusal) item = tt
-echoed-by (Stage.Jumped jump) item = tt
+    by-hearing (RowBy Stage.Waiting item) Role.Password port item Reaction.Ignores (counted-echoed Role.Password port item) (λ e. refl)
+row-by Stage.Password item = row-opened Stage.Password Role.Password Port.Serial item refl
+row-by (Stage.Header Port.Can) item = row-opened (Stage.Header Port.Can) Role.Header Port.Can item refl
+row-by (Stage.Header Port.Serial) item = row-opened (Stage.Header Port.Serial) Role.Header Port.Serial item refl
+row-by (Stage.Data Port.Can load) item = row-opened (Stage.Data Port.Can load) (Role.Data load) Port.Can item refl
+row-by (Stage.Data Port.Serial load) item = row-opened (Stage.Data Port.Serial load) (Role.Data load) Port.Serial item refl
+row-by (Stage.Stopped refusal) item = refl
+row-by (Stage.Jumped jump) item = refl
 
 module _ (session : Session) (sram : List ℕ) (item : Item) where
   -- the tests of the table, in their order
@@ -173,10 +189,14 @@ module _ (session : Session) (sram : List ℕ) (item : Item) where
       × (wellFormed item ≡ c)
       × (reaction (session .stage) item ≡ r)
 
+  row : (r : Reaction) → reaction (session .stage) item ≡ r → RowBy (session .stage) item r
+  row r e = rw e at (row-by (session .stage) item)
+
   pub exactly : (a b c : Bool) (r : Reaction) → Tested a b c r → step session sram item .number ≡ numberDue session sram item
   unfolding step takenAs precheck
   exactly true true true (Reaction.Takes role port) t = rw (t .0, t .1, t .2, t .3) (taken-number session role port (bytesOf item))
-  exactly true true true Reaction.Ignores t = rw (t .0, t .1, t .2, t .3)
+  exactly true true true Reaction.Ignores t = rw (t .0, t .1, t .2, t .3, row Reaction.Ignores (t .3))
+  exactly true true true Reaction.Stops t = rw (t .0, t .1, t .2, t .3, row Reaction.Stops (t .3))
   exactly true true false r t = rw (t .0, t .1, t .2)
   exactly true false c r t = rw (t .0, t .1)
   exactly false b c r t = rw (t .0)
@@ -189,6 +209,7 @@ module _ (session : Session) (sram : List ℕ) (item : Item) where
       (taken-kept session role sram (bytesOf item)
       (λ zero. not-0 (rw (t .0, t .1, t .2, t .3) zero)) (λ five. not-5 (rw (t .0, t .1, t .2, t .3) five)))
   kept true true true Reaction.Ignores t not-0 not-5 = rw (t .0, t .1, t .2, t .3)
+  kept true true true Reaction.Stops t not-0 not-5 = rw (t .0, t .1, t .2, t .3)
   kept true true false r t not-0 not-5 = rw (t .0, t .1, t .2)
   kept true false c r t not-0 not-5 = rw (t .0, t .1)
   kept false b c r t not-0 not-5 = rw (t .0)
@@ -199,20 +220,31 @@ module _ (session : Session) (sram : List ℕ) (item : Item) where
   unmoved true true true (Reaction.Takes role port) t e =
       absurd (true≢false (sym (rw (t .0, t .1, t .2, t .3) at e) ∙ taken-changes session role (bytesOf item)))
   unmoved true true true Reaction.Ignores t e = rw (t .0, t .1, t .2, t .3)
+  unmoved true true true Reaction.Stops t e = absurd (false≢true (rw (t .0, t .1, t .2, t .3, row Reaction.Stops (t .3)) at e))
   unmoved true true false r t e = rw (t .0, t .1, t .2)
   unmoved true false c r t e = rw (t .0, t .1)
   unmoved false b c r t e = rw (t .0)
 
-  pub echoed : (a b c : Bool) (r : Reaction) → Tested a b c r → changesNothing (numberDue session sram item) ≡ false
+  pub echoed : (a b c : Bool) (r : Reaction) → Tested a b c r → sendsEcho (numberDue session sram item) ≡ true
       → step session sram item .answer .echo ≡ echoUnder (echoedUnder item) (bytesOf item)
   unfolding step takenAs precheck
-  echoed true true true (Reaction.Takes role port) t e =
-      let under : EchoedBy item (Reaction.Takes role port) = rw (t .3) at (echoed-by (session .stage) item) in
-      rw (t .0, t .1, t .2, t .3, under)
-  echoed true true true Reaction.Ignores t e = absurd (true≢false (rw (t .0, t .1, t .2, t .3) at e))
-  echoed true true false r t e = absurd (true≢false (rw (t .0, t .1, t .2) at e))
-  echoed true false c r t e = absurd (true≢false (rw (t .0, t .1) at e))
-  echoed false b c r t e = absurd (true≢false (rw (t .0) at e))
+  echoed true true true (Reaction.Takes role port) t e = rw (t .0, t .1, t .2, t .3, row (Reaction.Takes role port) (t .3))
+  echoed true true true Reaction.Ignores t e = absurd (false≢true (rw (t .0, t .1, t .2, t .3, row Reaction.Ignores (t .3)) at e))
+  echoed true true true Reaction.Stops t e = absurd (false≢true (rw (t .0, t .1, t .2, t .3, row Reaction.Stops (t .3)) at e))
+  echoed true true false r t e = absurd (false≢true (rw (t .0, t .1, t .2) at e))
+  echoed true false c r t e = absurd (false≢true (rw (t .0, t .1) at e))
+  echoed false b c r t e = absurd (false≢true (rw (t .0) at e))
+
+  pub silent : (a b c : Bool) (r : Reaction) → Tested a b c r → sendsEcho (numberDue session sram item) ≡ false
+      → step session sram item .answer .echo ≡ noEcho
+  unfolding step precheck
+  silent true true true (Reaction.Takes role port) t e =
+      absurd (true≢false (sym (taken-echoed session role (bytesOf item)) ∙ rw (t .0, t .1, t .2, t .3) at e))
+  silent true true true Reaction.Ignores t e = rw (t .0, t .1, t .2, t .3)
+  silent true true true Reaction.Stops t e = rw (t .0, t .1, t .2, t .3)
+  silent true true false r t e = rw (t .0, t .1, t .2)
+  silent true false c r t e = rw (t .0, t .1)
+  silent false b c r t e = rw (t .0)
 
   pub leaves : (a b c : Bool) (r : Reaction) → Tested a b c r
       → stageAfter (step session sram item .answer .outcome) (step session sram item .session .stage)
@@ -220,33 +252,51 @@ module _ (session : Session) (sram : List ℕ) (item : Item) where
   unfolding step takenAs precheck
   leaves true true true (Reaction.Takes role port) t = rw (t .0, t .1, t .2, t .3) (transition-named session role port (bytesOf item))
   leaves true true true Reaction.Ignores t = rw (t .0, t .1, t .2, t .3)
+  leaves true true true Reaction.Stops t = rw (t .0, t .1, t .2, t .3)
   leaves true true false r t = rw (t .0, t .1, t .2)
   leaves true false c r t = rw (t .0, t .1)
   leaves false b c r t = rw (t .0)
 
+  pub accepted : (a b c : Bool) (r : Reaction) → Tested a b c r → numberDue session sram item ≡ 12
+      → acceptedVle (step session sram item .session .stage) ≡ acceptedVle (session .stage)
+  unfolding step precheck
+  accepted true true true (Reaction.Takes role port) t e =
+      absurd (not-twelve session role (bytesOf item) (rw (t .0, t .1, t .2, t .3) at e))
+  accepted true true true Reaction.Ignores t e = rw (t .0, t .1, t .2, t .3)
+  accepted true true true Reaction.Stops t e = rw (t .0, t .1, t .2, t .3)
+  accepted true true false r t e = rw (t .0, t .1, t .2)
+  accepted true false c r t e = rw (t .0, t .1)
+  accepted false b c r t e = rw (t .0)
+
   -- 5 is given only for the last byte of a load
-  pub jumps : (port : Port) (load : Load) → session .stage ≡ Stage.Data port load → (a b c counts last : Bool)
+  not-five : (stage : Stage) → leftNumber stage item ≡ 5 → ⊥
+  not-five stage =
+      by-test (λ (n : ℕ). n ≡ 5 → ⊥) 12 1 (serialGoing stage && faultyByte item) (λ e f. omega arith) (λ e f. omega arith)
+
+  pub jumps : (port : Port) (load : Load) → session .stage ≡ Stage.Data port load → (a b c counts stops last : Bool)
       → rightSize (session .configuration) sram ≡ a
       → sound session ≡ b
       → wellFormed item ≡ c
       → countsAs (Role.Data load) port item ≡ counts
+      → stopsBy port item ≡ stops
       → eqb (length (bytesOf item)) (load .owed) ≡ last
       → numberDue session sram item ≡ 5
       → step session sram item .answer .outcome ≡ Outcome.Jumps (jumpOf load)
   unfolding step takenAs precheck reaction transition loaded
-  jumps port load s true true true true true e f g h i five = rw (e, f, g, s, h, i)
-  jumps port load s true true true true false e f g h i five =
+  jumps port load s true true true true stops true e f g h j i five = rw (e, f, g, s, h, i)
+  jumps port load s true true true true stops false e f g h j i five =
       let other : _≡_ {A = ℕ} 0 5 = rw (e, f, g, s, h, i) at five in
       absurd (omega (arith, other))
-  jumps port load s true true true false last e f g h i five =
-      let other : _≡_ {A = ℕ} 1 5 = rw (e, f, g, s, h) at five in
-      absurd (omega (arith, other))
-  jumps port load s true true false counts last e f g h i five =
+  jumps port load s true true true false true last e f g h j i five =
+      absurd (not-five (Stage.Data port load) (rw (e, f, g, s, h, j) at five))
+  jumps port load s true true true false false last e f g h j i five =
+      absurd (not-five (Stage.Data port load) (rw (e, f, g, s, h, j) at five))
+  jumps port load s true true false counts stops last e f g h j i five =
       let other : _≡_ {A = ℕ} 6 5 = rw (e, f, g) at five in
       absurd (omega (arith, other))
-  jumps port load s true false c counts last e f g h i five =
+  jumps port load s true false c counts stops last e f g h j i five =
       let other : _≡_ {A = ℕ} 8 5 = rw (e, f) at five in
       absurd (omega (arith, other))
-  jumps port load s false b c counts last e f g h i five =
+  jumps port load s false b c counts stops last e f g h j i five =
       let other : _≡_ {A = ℕ} 7 5 = rw e at five in
       absurd (omega (arith, other))

@@ -1,5 +1,5 @@
--- The rows of 01's table "What the head says back" for one item, each by its own words, and the claim that the rules give them. Which items
--- are taken, and in which role, they share with the rules (`session_items: Reacting.reaction`).
+-- The rows of 01's table "What the head says back" for one item, with the one that 02, E2 adds, each by its own words, and the claim that the
+-- rules give them. Which items are taken, and in which role, they share with the rules (`session_items: Reacting.reaction`).
 use Prim.Native.Nat.{ℕ, _-_}
 use mathlib.Core.Path.{_≡_}
 use mathlib.Core.List.{List}
@@ -12,15 +12,16 @@ use Rattle.session_state.specs.declared.Load.{Load}
 use Rattle.session_state.specs.declared.Port.{Port}
 use Rattle.session_state.specs.declared.Session.{Session}
 use Rattle.session_state.specs.declared.Stage.{Stage}
+use Rattle.session_state.specs.Accepted.{acceptedVle}
 use Rattle.session_state.specs.Sound.{sound}
 use Rattle.header.specs.Reading.{headerRead, announcesNone, within}
 use Rattle.session_items.specs.declared.Reaction.{Reaction}
 use Rattle.session_items.specs.declared.Role.{Role}
 use Rattle.session_items.specs.declared.Source.{Source}
 use Rattle.session_items.specs.Items.{Item, wellFormed, bytesOf}
-use Rattle.session_items.specs.Reacting.{reaction}
+use Rattle.session_items.specs.Reacting.{faultyByte, reaction}
 use Rattle.session_answers.specs.declared.Outcome.{Outcome}
-use Rattle.session_answers.specs.Answers.{echoUnder, unchanged}
+use Rattle.session_answers.specs.Answers.{echoUnder, noEcho, unchanged}
 use Rattle.session.specs.Rules.{received, step}
 
 -- 2: "8th password byte in, check not passed"
@@ -49,10 +50,25 @@ takenNumber Role.Header session bytes =
     cond (lengthZero session (received session bytes)) 3 (cond (notInSram session (received session bytes)) 4 0)
 takenNumber (Role.Data load) session bytes = cond (lastStored load bytes) 5 0
 
--- "item ignored": 1
+-- 12: "A faulty serial byte after the serial port has opened"; "a session already stopped or jumped still ignores it" (02, E2)
+abbrev pub serialGoing : Stage → Bool
+serialGoing Stage.Waiting = false
+serialGoing Stage.Password = true
+serialGoing (Stage.Header Port.Can) = false
+serialGoing (Stage.Header Port.Serial) = true
+serialGoing (Stage.Data Port.Can load) = false
+serialGoing (Stage.Data Port.Serial load) = true
+serialGoing (Stage.Stopped refusal) = false
+serialGoing (Stage.Jumped jump) = false
+
+-- any other item that is not taken, "item ignored": 1
+abbrev pub leftNumber : Stage → Item → ℕ
+leftNumber stage item = cond (serialGoing stage && faultyByte item) 12 1
+
 abbrev pub ruledNumber : Reaction → Session → Item → ℕ
-ruledNumber Reaction.Ignores session item = 1
 ruledNumber (Reaction.Takes role port) session item = takenNumber role session (bytesOf item)
+ruledNumber Reaction.Ignores session item = leftNumber (session .stage) item
+ruledNumber Reaction.Stops session item = leftNumber (session .stage) item
 
 -- "One item: 7, then 8, then 6, then the session's rules."
 abbrev pub numberDue : Session → List ℕ → Item → ℕ
@@ -69,12 +85,16 @@ numberDue session sram item =
 abbrev pub changesNothing : ℕ → Bool
 changesNothing number = eqb number 1 || eqb number 6 || eqb number 7 || eqb number 8
 
+-- and those whose rows say "echo"
+abbrev pub sendsEcho : ℕ → Bool
+sendsEcho number = eqb number 0 || eqb number 2 || eqb number 3 || eqb number 4 || eqb number 5
+
 -- the identifier of an echo: "under 0x001, 0x002, 0x003", which is the frame's own less 0x010; serial has none
 abbrev pub echoedUnder : Item → ℕ
 echoedUnder (Item.Of (Source.Can identifier) bytes) = identifier - 0x010
 echoedUnder (Item.Of (Source.Serial mark) bytes) = 0
 
--- the stage after an answer: 2 to 4 "session stopped", 5 where the head jumps; of the others no row names a stage
+-- the stage after an answer: 2 to 4 and 12 "session stopped", 5 where the head jumps; of the others no row names a stage
 abbrev pub stageAfter : Outcome → Stage → Stage
 stageAfter Outcome.Taken stage = stage
 stageAfter Outcome.Ignored stage = stage
@@ -83,7 +103,7 @@ stageAfter (Outcome.Jumps jump) stage = Stage.Jumped jump
 stageAfter (Outcome.Refused fault) stage = stage
 
 -- "Each is given exactly in its row's case. Only 0 and 5 may change SRAM.", and of what the rows return and leave: what changes nothing, the
--- echoes, the jump, and the stages of 2 to 5
+-- echoes, the jump, the stages of 2 to 5 and 12, and the header that stays accepted with 12
 pub record RowsHold : Type 0 where
   pub exactly : (session : Session) (sram : List ℕ) (item : Item)
       → step session sram item .number ≡ numberDue session sram item
@@ -92,9 +112,10 @@ pub record RowsHold : Type 0 where
   -- "no echo; nothing changed", "number only; nothing changed"
   pub unmoved : (session : Session) (sram : List ℕ) (item : Item) → changesNothing (numberDue session sram item) ≡ true
       → step session sram item ≡ unchanged (step session sram item .answer .outcome) session sram
-  -- 0 and 2 to 5: "echo"
-  pub echoed : (session : Session) (sram : List ℕ) (item : Item) → changesNothing (numberDue session sram item) ≡ false
+  pub echoed : (session : Session) (sram : List ℕ) (item : Item) → sendsEcho (numberDue session sram item) ≡ true
       → step session sram item .answer .echo ≡ echoUnder (echoedUnder item) (bytesOf item)
+  pub silent : (session : Session) (sram : List ℕ) (item : Item) → sendsEcho (numberDue session sram item) ≡ false
+      → step session sram item .answer .echo ≡ noEcho
   -- 5: "jump address, VLE", which are the load's
   pub jumps : (session : Session) (sram : List ℕ) (item : Item) (port : Port) (load : Load)
       → session .stage ≡ Stage.Data port load
@@ -103,3 +124,6 @@ pub record RowsHold : Type 0 where
   pub leaves : (session : Session) (sram : List ℕ) (item : Item)
       → stageAfter (step session sram item .answer .outcome) (step session sram item .session .stage)
       ≡ step session sram item .session .stage
+  -- 12: an accepted header stays so
+  pub stays-accepted : (session : Session) (sram : List ℕ) (item : Item) → numberDue session sram item ≡ 12
+      → acceptedVle (step session sram item .session .stage) ≡ acceptedVle (session .stage)

@@ -6,7 +6,7 @@ use lib.ListN.{replicate}
 use Rattle.session_configuration.specs.declared.Entered.{Entered}
 use Rattle.boot.specs.declared.Mode.{Mode}
 use Rattle.session_state.specs.declared.Session.{Session}
-use Rattle.session_state.specs.declared.Stage.{Stage}
+use Rattle.session_state.specs.Accepted.{acceptedVle}
 use Rattle.session_state.specs.Sound.{sound}
 use Rattle.mmu.specs.declared.Mapping.{Mapping}
 use Rattle.mmu.specs.declared.Row.{Row}
@@ -101,17 +101,8 @@ mappingFor mode vle =
 abbrev pub choiceRows : Mode → Mapping
 choiceRows mode = mappingFor mode false
 
--- Of a session: "An accepted header with VLE 1 sets VLE on entries 1 to 3; with 0 it clears it" (003, 21.5.5.4, step 2). The header that a
--- session has accepted is that of its load, begun or done.
-abbrev pub acceptedVle : Stage → Bool
-acceptedVle Stage.Waiting = false
-acceptedVle Stage.Password = false
-acceptedVle (Stage.Header port) = false
-acceptedVle (Stage.Data port load) = load .vle
-acceptedVle (Stage.Stopped refusal) = false
-acceptedVle (Stage.Jumped jump) = jump .vle
-
--- how its serial boot was entered is fixed by the choice that gave it; "session not sound": number 8
+-- Of a session: "An accepted header with VLE 1 sets VLE on entries 1 to 3; with 0 it clears it" (003, 21.5.5.4, step 2). How its serial boot
+-- was entered is fixed by the choice that gave it; "session not sound": number 8
 unfoldable pub sessionRows : Session → Mapping
 sessionRows session =
     cond (sound session)

@@ -1,11 +1,10 @@
 // The MMU rows (01, "MMU rows"; 000, Table 16-2) of internal boot, and of serial boot entered directly or from internal: those of a choice,
 // and those of a session.
 ghost use mathlib.Core.Path.{_≡_};
-ghost use Rattle.mmu.specs.Rows.{tableRow, internalRows, hasExternalRows, refused, mappingFor, choiceRows, acceptedVle, sessionRows};
+ghost use Rattle.mmu.specs.Rows.{tableRow, internalRows, hasExternalRows, refused, mappingFor, choiceRows, sessionRows};
 use boot::Mode;
 use session_configuration::Entered;
 use session_state::Session;
-use session_state::Stage;
 
 // One MMU entry: base addresses, size in bytes, and attributes.
 pub struct Row {
@@ -109,20 +108,6 @@ pub fn choice_rows(mode: Mode) -> Mapping
     rows_for(mode, false)
 }
 
-// The VLE bit of the header that was accepted.
-fn accepted_vle(stage: Stage) -> bool
-    ensures { λ r. ⌜ r ≡ acceptedVle stage ⌝ }
-{
-    match stage {
-        Stage::Waiting => false,
-        Stage::Password => false,
-        Stage::Header(_) => false,
-        Stage::Data(_, load) => load.vle,
-        Stage::Stopped(_) => false,
-        Stage::Jumped(jump) => jump.vle,
-    }
-}
-
 // The rows of a session.
 pub fn session_rows(session: Session) -> Mapping
     ensures { λ r. ⌜ r ≡ sessionRows session ⌝ }
@@ -131,7 +116,7 @@ pub fn session_rows(session: Session) -> Mapping
     let entered = configuration.entered;
     let stage = session.stage;
     if session_state::is_sound(session) {
-        return rows_for(Mode::Serial(entered), accepted_vle(stage));
+        return rows_for(Mode::Serial(entered), session_state::accepted_vle(stage));
     }
     refuse(8)
 }

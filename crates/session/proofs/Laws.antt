@@ -28,15 +28,15 @@ use Rattle.session_items.specs.declared.Role.{Role}
 use Rattle.session_items.specs.declared.Source.{Source}
 use Rattle.session_items.specs.Items.{Item, wellFormed, portOf, bytesOf}
 use Rattle.session_items.specs.Reacting.{countsAs, reaction}
-use Rattle.session_items.proofs.Laws.{by-hearing, EightBy, DataBy, counted, serial-not-can}
+use Rattle.session_items.proofs.Laws.{by-hearing, by-hearing-opened, EightBy, DataBy, counted, stopping-own, serial-not-can}
 use Rattle.session_answers.specs.declared.Fault.{Fault}
 use Rattle.session_answers.specs.declared.Outcome.{Outcome}
 use Rattle.session_answers.specs.declared.Prechecked.{Prechecked}
-use Rattle.session_answers.specs.Answers.{precheck, notTaken, unchanged}
+use Rattle.session_answers.specs.Answers.{resultOf, precheck, notTaken, unchanged}
 use Rattle.session_answers.proofs.Laws.{Accepted, precheck-passed}
 use Rattle.session.specs.declared.Transition.{Transition}
 use Rattle.session.specs.Room.{Room}
-use Rattle.session.specs.Rules.{enters, received, checked, begun, loaded, loadFrom, advanced, jumpOf, passwordReceived, headerReceived, transition, sramAfter, takenAs, stepPrechecked, step, stops, holds}
+use Rattle.session.specs.Rules.{enters, received, checked, begun, loaded, loadFrom, advanced, jumpOf, passwordReceived, headerReceived, transition, sramAfter, takenAs, faulted, stepPrechecked, step, stops, holds}
 
 -- Bytes that are gathered until there are 8: some come, they have their place, and by CAN all come at once.
 pub record Gathered (port : Port) (session : Session) (count : ℕ) : Type 0 where
@@ -62,7 +62,8 @@ Placed Role.Header port session count = Gathered port session count
 Placed (Role.Data load) port session count =
     (session .count ≡ 0) × (loadFits (session .configuration) load ≡ true) × (count ≤ load .owed)
 
--- What a reaction says: of an item that is taken its form, its port, and that its bytes have their place.
+-- What a reaction says: of an item that is taken its form, its port, and that its bytes have their place; of one that stops the session its
+-- form.
 pub record Taken (session : Session) (item : Item) (role : Role) (port : Port) : Type 0 where
   pub formed : wellFormed item ≡ true
   pub own : portOf item ≡ port
@@ -71,6 +72,7 @@ pub record Taken (session : Session) (item : Item) (role : Role) (port : Port) :
 abbrev pub Reacted : Session → Item → Reaction → Type 0
 Reacted session item Reaction.Ignores = Unit {0}
 Reacted session item (Reaction.Takes role port) = Taken session item role port
+Reacted session item Reaction.Stops = wellFormed item ≡ true
 
 module _ (session : Session) (item : Item) where
   taken-as : (role : Role) (port : Port) → countsAs role port item ≡ true → Placed role port session (length (bytesOf item))
@@ -85,40 +87,44 @@ module _ (session : Session) (item : Item) where
   reacted-in Stage.Waiting s =
       let none = eqb-true (session .count) 0 s in
       let port = portOf item in
-      by-hearing (Reacted session item) Role.Password port item
+      by-hearing (Reacted session item) Role.Password port item Reaction.Ignores
       (λ e. taken-as Role.Password port e
       (gathered port session (length (bytesOf item)) (counted Role.Password port item e .sized) (omega arith) (λ h. none)))
       (λ e. tt)
   reacted-in Stage.Password s =
       let few = leb-true (session .count) 7 (and-eq-true-iff (leb 1 (session .count)) (leb (session .count) 7) .0 s .1) in
-      by-hearing (Reacted session item) Role.Password Port.Serial item
+      by-hearing-opened (Reacted session item) Role.Password Port.Serial item
       (λ e. taken-as Role.Password Port.Serial e
       (gathered Port.Serial session (length (bytesOf item)) (counted Role.Password Port.Serial item e .sized) few
       (λ h. absurd (serial-not-can h))))
-      (λ e. tt)
+      (λ f e. stopping-own Port.Serial item f .0)
+      (λ f e. tt)
   reacted-in (Stage.Header Port.Can) s =
       let none = eqb-true (session .count) 0 s in
-      by-hearing (Reacted session item) Role.Header Port.Can item
+      by-hearing-opened (Reacted session item) Role.Header Port.Can item
       (λ e. taken-as Role.Header Port.Can e
       (gathered Port.Can session (length (bytesOf item)) (counted Role.Header Port.Can item e .sized) (omega arith) (λ h. none)))
-      (λ e. tt)
+      (λ f e. stopping-own Port.Can item f .0)
+      (λ f e. tt)
   reacted-in (Stage.Header Port.Serial) s =
-      by-hearing (Reacted session item) Role.Header Port.Serial item
+      by-hearing-opened (Reacted session item) Role.Header Port.Serial item
       (λ e. taken-as Role.Header Port.Serial e
       (gathered Port.Serial session (length (bytesOf item)) (counted Role.Header Port.Serial item e .sized)
       (leb-true (session .count) 7 s) (λ h. absurd (serial-not-can h))))
-      (λ e. tt)
+      (λ f e. stopping-own Port.Serial item f .0)
+      (λ f e. tt)
   reacted-in (Stage.Data port load) s =
       let fits = loadFits (session .configuration) load in
       let both = and-eq-true-iff (eqb (session .count) 0) fits .0 s in
       let some = load-fits (session .configuration) load (both .1) .some-owed in
-      by-hearing (Reacted session item) (Role.Data load) port item
+      by-hearing-opened (Reacted session item) (Role.Data load) port item
       (λ e. taken-as (Role.Data load) port e (
         eqb-true (session .count) 0 (both .0),
         both .1,
         owed-enough port load (length (bytesOf item)) (counted (Role.Data load) port item e .sized) some,
       ))
-      (λ e. tt)
+      (λ f e. stopping-own port item f .0)
+      (λ f e. tt)
   reacted-in (Stage.Stopped refusal) s = tt
   reacted-in (Stage.Jumped jump) s = tt
 
@@ -132,6 +138,10 @@ module _ (session : Session) (sram : List ℕ) (item : Item) (ok : Accepted sess
       → step session sram item ≡ takenAs role port session sram (bytesOf item)
   unfolding step precheck
   step-takes role port e = rw (ok .right, ok .fine, reacted session item (ok .fine) (Reaction.Takes role port) e .formed, e)
+
+  pub step-stops : reaction (session .stage) item ≡ Reaction.Stops → step session sram item ≡ resultOf (faulted session) sram
+  unfolding step precheck
+  step-stops e = rw (ok .right, ok .fine, reacted session item (ok .fine) Reaction.Stops e, e)
 
   pub step-ignores : reaction (session .stage) item ≡ Reaction.Ignores
       → step session sram item ≡ unchanged (notTaken item) session sram
@@ -298,6 +308,11 @@ kept session sram item role port taken ok =
       right = rw (fits .same) (sram-size session role port sram (bytesOf item) (taken .placed) (ok .right));
       fine = sound-again session next (ok .fine) (fits .same) (fits .fits);
     }
+
+-- nor after one that stopped the session
+pub kept-stopped : (session : Session) (sram : List ℕ) → Accepted session sram → Accepted (faulted session .session) sram
+kept-stopped session sram ok =
+    record { right = ok .right; fine = sound-again session (faulted session .session) (ok .fine) refl refl }
 
 -- What `session::take` asks for.
 

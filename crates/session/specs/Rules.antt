@@ -13,6 +13,7 @@ use Rattle.session_state.specs.declared.Port.{Port}
 use Rattle.session_state.specs.declared.Refusal.{Refusal}
 use Rattle.session_state.specs.declared.Session.{Session}
 use Rattle.session_state.specs.declared.Stage.{Stage}
+use Rattle.session_state.specs.Accepted.{acceptedVle}
 use Rattle.header.specs.declared.Header.{Header}
 use Rattle.header.specs.declared.Validated.{Validated}
 use Rattle.header.specs.Reading.{headerRead, validated}
@@ -22,7 +23,8 @@ use Rattle.session_items.specs.Items.{Item, wellFormed, bytesOf}
 use Rattle.session_items.specs.Reacting.{reaction}
 use Rattle.session_answers.specs.declared.Outcome.{Outcome}
 use Rattle.session_answers.specs.declared.Prechecked.{Prechecked}
-use Rattle.session_answers.specs.Answers.{Result, resultOf, precheck, echoOf, unchanged}
+use Rattle.session_answers.specs.declared.StepResult.{StepResult}
+use Rattle.session_answers.specs.Answers.{Result, resultOf, precheck, echoOf, nothingTaken, unchanged}
 use Rattle.session.specs.declared.Transition.{Transition}
 
 -- What the bytes taken do. It is the same for both ports.
@@ -118,10 +120,17 @@ takenAs role port session sram bytes =
     resultOf (record { answer = record { outcome = next .outcome; echo = echoOf role port bytes }; session = next .session })
     (sramAfter role session sram bytes)
 
+-- a faulty byte behind the opening "shall stop the session, no echo" (02, E2); a header that was accepted stays so
+abbrev pub faulted : Session → StepResult
+faulted session =
+    let next : Transition = stops session (Refusal.FaultyByte (acceptedVle (session .stage))) in
+    nothingTaken (next .outcome) (next .session)
+
 -- the session's rules: "Ignored items get no echo."
 abbrev pub ruled : Reaction → Session → List ℕ → Item → Result
 ruled Reaction.Ignores session sram item = unchanged Outcome.Ignored session sram
 ruled (Reaction.Takes role port) session sram item = takenAs role port session sram (bytesOf item)
+ruled Reaction.Stops session sram item = resultOf (faulted session) sram
 
 -- "One item: 7, then 8, then 6, then the session's rules."
 abbrev pub stepPrechecked : Prechecked → Session → List ℕ → Item → Result

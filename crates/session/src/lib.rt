@@ -7,7 +7,7 @@ ghost use Rattle.buffers.specs.Write.{over};
 ghost use Rattle.sram.specs.Region.{rightSize};
 ghost use Rattle.session_items.specs.Items.{Item};
 ghost use Rattle.session_answers.specs.Answers.{resultOf};
-ghost use Rattle.session.specs.Rules.{received, enters, stops, checked, begun, loaded, passwordReceived, headerReceived, transition, sramAfter, takenAs, step};
+ghost use Rattle.session.specs.Rules.{received, enters, stops, checked, begun, loaded, passwordReceived, headerReceived, transition, sramAfter, takenAs, faulted, step};
 ghost use Rattle.session.specs.Room.{LoadRoom, Room};
 use header::Validated;
 use session_answers::Answer;
@@ -206,6 +206,20 @@ fn take(role: Role, port: Port, session: Session, sram: &mut [u8], bytes: &[u8])
     }
 }
 
+// A faulty byte behind the opening.
+fn stop_at_fault(session: Session) -> StepResult
+    ensures { λ r. ⌜ r ≡ faulted session ⌝ }
+{
+    let stage = session.stage;
+    let next = stop(
+        session,
+        Refusal::FaultyByte(session_state::accepted_vle(stage)),
+    );
+    let outcome = next.outcome;
+    let stopped = next.session;
+    session_answers::take_nothing(stopped, outcome)
+}
+
 // One item.
 pub fn hand_in(session: Session, sram: &mut [u8], source: Source, bytes: &[u8]) -> StepResult
     ensures { λ r. ⌜ resultOf r (now (sram .exit)) ≡ step session (now (sram .entry)) (Item.Of source (now (bytes .entry))) ⌝ }
@@ -216,8 +230,9 @@ pub fn hand_in(session: Session, sram: &mut [u8], source: Source, bytes: &[u8]) 
     }
     let stage = session.stage;
     let reaction = session_items::react(stage, source, bytes);
-    if let Reaction::Takes(role, port) = reaction {
-        return take(role, port, session, sram, bytes);
+    match reaction {
+        Reaction::Ignores => session_answers::take_nothing(session, Outcome::Ignored),
+        Reaction::Takes(role, port) => take(role, port, session, sram, bytes),
+        Reaction::Stops => stop_at_fault(session),
     }
-    session_answers::take_nothing(session, Outcome::Ignored)
 }

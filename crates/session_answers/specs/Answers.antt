@@ -18,11 +18,13 @@ use Rattle.session_answers.specs.declared.Outcome.{Outcome}
 use Rattle.session_answers.specs.declared.Prechecked.{Prechecked}
 use Rattle.session_answers.specs.declared.StepResult.{StepResult}
 
--- "8th password byte in, check not passed"; "header complete, length 0"; "header complete, length not 0, not wholly in SRAM"
+-- "8th password byte in, check not passed"; "header complete, length 0"; "header complete, length not 0, not wholly in SRAM"; a faulty byte
+-- behind the opening, "new number 12" (02, E2)
 abbrev pub refusalNumber : Refusal → ℕ
 refusalNumber Refusal.Password = 2
 refusalNumber Refusal.Length = 3
 refusalNumber Refusal.Range = 4
+refusalNumber (Refusal.FaultyByte vle) = 12
 
 -- "identifier above 2,047 or count above 8"; "SRAM handed in is not 65,536 bytes"; "session not sound"
 abbrev pub faultNumber : Fault → ℕ
@@ -87,7 +89,8 @@ resultOf result sram =
       sram = sram;
     }
 
--- no echo, and the session as it is handed in: "no echo; nothing changed" (number 1), "number only; nothing changed" (numbers 6, 7 and 8)
+-- no echo, and the session that is handed in, which is the one before the step: "no echo; nothing changed" (number 1), "number only; nothing
+-- changed" (numbers 6, 7 and 8); or one that a faulty byte has stopped
 abbrev pub withoutEcho : Outcome → Answer
 withoutEcho outcome = record { outcome = outcome; echo = noEcho }
 

@@ -58,6 +58,7 @@ pub fn refusal_number(refusal: Refusal) -> u8
         Refusal::Password => 2,
         Refusal::Length => 3,
         Refusal::Range => 4,
+        Refusal::FaultyByte(_) => 12,
     }
 }
 

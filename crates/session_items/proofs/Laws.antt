@@ -2,7 +2,7 @@
 use Prim.Native.Nat.{ℕ, _≤_}
 use native.Mathlib.Omega.{arith}
 use mathlib.Core.Path.{_≡_, refl}
-use mathlib.Core.Bool.{true, false, _&&_, and-eq-true-iff, false≢true}
+use mathlib.Core.Bool.{true, false, not, _&&_, and-eq-true-iff, false≢true}
 use borrow.Author.Tests.{eqb-true, leb-true, le-leb}
 use lib.Dec.{leb, eqb}
 use lib.ListN.{length}
@@ -12,15 +12,25 @@ use Rattle.session_items.specs.declared.Reaction.{Reaction}
 use Rattle.session_items.specs.declared.Role.{Role}
 use Rattle.session_items.specs.declared.Source.{Source}
 use Rattle.session_items.specs.Items.{Item, wellFormed, portOf, bytesOf}
-use Rattle.session_items.specs.Reacting.{eightUnder, dataFitting, cleanByte, countsAs, heard}
+use Rattle.session_items.specs.Reacting.{eightUnder, dataFitting, cleanByte, countsAs, heard, stopsBy, uncounted, heardOpened}
 
--- an item is taken or ignored by whether it counts
-pub by-hearing : (P : Reaction → Type 0) (role : Role) (port : Port) (item : Item)
+-- an item is taken or not by whether it counts
+pub by-hearing : (P : Reaction → Type 0) (role : Role) (port : Port) (item : Item) (otherwise : Reaction)
     → (countsAs role port item ≡ true → P (Reaction.Takes role port))
-    → (countsAs role port item ≡ false → P Reaction.Ignores)
-    → P (heard role port item)
-by-hearing P role port item takes ignores =
-    by-test P (Reaction.Takes role port) Reaction.Ignores (countsAs role port item) takes ignores
+    → (countsAs role port item ≡ false → P otherwise)
+    → P (heard role port item otherwise)
+by-hearing P role port item otherwise takes leaves =
+    by-test P (Reaction.Takes role port) otherwise (countsAs role port item) takes leaves
+
+-- behind the opening it is taken, stops the session, or is ignored
+pub by-hearing-opened : (P : Reaction → Type 0) (role : Role) (port : Port) (item : Item)
+    → (countsAs role port item ≡ true → P (Reaction.Takes role port))
+    → (stopsBy port item ≡ true → countsAs role port item ≡ false → P Reaction.Stops)
+    → (stopsBy port item ≡ false → countsAs role port item ≡ false → P Reaction.Ignores)
+    → P (heardOpened role port item)
+by-hearing-opened P role port item takes stops ignores =
+    by-hearing P role port item (uncounted port item) takes
+    (λ e. by-test P Reaction.Stops Reaction.Ignores (stopsBy port item) (λ f. stops f e) (λ f. ignores f e))
 
 -- how many bytes an item has: by CAN all 8 of a password or a header come at once, by serial one comes at a time
 abbrev pub EightBy : Port → ℕ → Type 0
@@ -41,6 +51,13 @@ pub record Counted (role : Role) (port : Port) (item : Item) : Type 0 where
   pub formed : wellFormed item ≡ true
   pub own : portOf item ≡ port
   pub sized : Sized role port (length (bytesOf item))
+
+-- what stops a session of a port is a whole item of that port
+pub stopping-own : (port : Port) (item : Item) → stopsBy port item ≡ true → (wellFormed item ≡ true) × (portOf item ≡ port)
+stopping-own Port.Can item e = absurd (false≢true e)
+stopping-own Port.Serial (Item.Of (Source.Can identifier) bytes) e = absurd (false≢true e)
+stopping-own Port.Serial (Item.Of (Source.Serial mark) bytes) e =
+    (and-eq-true-iff (eqb (length bytes) 1) (not (eqb mark 0)) .0 e .0, refl)
 
 pub serial-not-can : Port.Serial ≡ Port.Can → ⊥
 serial-not-can h = let z : _≡_ {A = ℕ} 0 1 = cc in omega arith

@@ -1,6 +1,6 @@
--- What a stage does with an item (01, "A serial session"): it ignores it, or takes it in a role by a port.
+-- What a stage does with an item (01, "A serial session"; 02, E2): it ignores it, takes it in a role by a port, or is stopped by it.
 use Prim.Native.Nat.{ℕ}
-use mathlib.Core.Bool.{Bool, false, cond, _&&_}
+use mathlib.Core.Bool.{Bool, false, cond, not, _&&_}
 use lib.ListN.{length}
 use lib.Dec.{leb, eqb}
 use Rattle.session_state.specs.declared.Port.{Port}
@@ -21,10 +21,15 @@ dataFitting owed (Item.Of (Source.Can identifier) bytes) =
     eqb identifier 0x013 && leb 1 (length bytes) && leb (length bytes) 8 && leb (length bytes) owed
 dataFitting owed (Item.Of (Source.Serial mark) bytes) = false
 
--- a serial byte whose mark is 0; any other mark is that of a faulty one: "Faulty bytes are ignored."
+-- a serial byte whose mark is 0
 abbrev pub cleanByte : Item → Bool
 cleanByte (Item.Of (Source.Can identifier) bytes) = false
 cleanByte (Item.Of (Source.Serial mark) bytes) = eqb (length bytes) 1 && eqb mark 0
+
+-- and one with any other mark
+abbrev pub faultyByte : Item → Bool
+faultyByte (Item.Of (Source.Can identifier) bytes) = false
+faultyByte (Item.Of (Source.Serial mark) bytes) = eqb (length bytes) 1 && not (eqb mark 0)
 
 -- The table of what counts for a role by a port. CAN: 0x011 with 8 bytes is the password, "only 0x012 with 8 bytes counts (the header); then
 -- only 0x013 ..". Serial: "clean bytes are password, then header, then data."
@@ -38,16 +43,29 @@ countsAs role Port.Serial item = cleanByte item
 abbrev pub opens : Item → Bool
 opens item = countsAs Role.Password (portOf item) item
 
--- what counts is taken; "Other frames are ignored", and "The other port's items are ignored from then on."
-abbrev pub heard : Role → Port → Item → Reaction
-heard role port item = cond (countsAs role port item) (Reaction.Takes role port) Reaction.Ignores
+-- what counts is taken
+abbrev pub heard : Role → Port → Item → Reaction → Reaction
+heard role port item otherwise = cond (countsAs role port item) (Reaction.Takes role port) otherwise
+
+-- What stops a session that has opened a port: "A faulty serial byte after the serial port has opened" (02, E2). Nothing stops one of CAN,
+-- where a faulty byte is the other port's item.
+abbrev pub stopsBy : Port → Item → Bool
+stopsBy Port.Can item = false
+stopsBy Port.Serial item = faultyByte item
+
+-- what does not count behind the opening: "Other frames are ignored", and "The other port's items are ignored from then on."
+abbrev pub uncounted : Port → Item → Reaction
+uncounted port item = cond (stopsBy port item) Reaction.Stops Reaction.Ignores
+
+abbrev pub heardOpened : Role → Port → Item → Reaction
+heardOpened role port item = heard role port item (uncounted port item)
 
 -- "Waiting: a CAN frame 0x011 with 8 bytes opens CAN and is the password. A clean serial byte opens serial and is the first of 8 password
 -- bytes. All else is ignored."; "Stopped and jumped sessions ignore everything."
 unfoldable pub reaction : Stage → Item → Reaction
-reaction Stage.Waiting item = heard Role.Password (portOf item) item
-reaction Stage.Password item = heard Role.Password Port.Serial item
-reaction (Stage.Header port) item = heard Role.Header port item
-reaction (Stage.Data port load) item = heard (Role.Data load) port item
+reaction Stage.Waiting item = heard Role.Password (portOf item) item Reaction.Ignores
+reaction Stage.Password item = heardOpened Role.Password Port.Serial item
+reaction (Stage.Header port) item = heardOpened Role.Header port item
+reaction (Stage.Data port load) item = heardOpened (Role.Data load) port item
 reaction (Stage.Stopped refusal) item = Reaction.Ignores
 reaction (Stage.Jumped jump) item = Reaction.Ignores

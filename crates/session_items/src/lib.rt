@@ -2,7 +2,7 @@
 ghost use mathlib.Core.Path.{_≡_};
 ghost use Rattle.octets.specs.Read.{halfAt};
 ghost use Rattle.session_items.specs.Items.{Item, wellFormed, portFrom, isItem, markOf, sourceOf, leading};
-ghost use Rattle.session_items.specs.Reacting.{eightUnder, dataFitting, cleanByte, countsAs, heard, reaction};
+ghost use Rattle.session_items.specs.Reacting.{eightUnder, dataFitting, cleanByte, faultyByte, countsAs, heard, stopsBy, uncounted, heardOpened, reaction};
 use session_state::Load;
 use session_state::Port;
 use session_state::Stage;
@@ -24,6 +24,7 @@ pub enum Role {
 pub enum Reaction {
     Ignores,
     Takes(Role, Port),
+    Stops,
 }
 
 // Whether an item is not refused for its form.
@@ -81,6 +82,16 @@ fn is_clean_byte(source: Source, bytes: &[u8]) -> bool
     }
 }
 
+// Whether an item is a faulty serial byte.
+fn is_faulty_byte(source: Source, bytes: &[u8]) -> bool
+    ensures { λ r. ⌜ r ≡ faultyByte (Item.Of source (now (bytes .entry))) ⌝ }
+{
+    match source {
+        Source::Can(_) => false,
+        Source::Serial(mark) => (bytes.len() == 1) & !(mark == 0),
+    }
+}
+
 // Whether an item counts for a role by a port.
 fn counts_as(role: Role, port: Port, source: Source, bytes: &[u8]) -> bool
     ensures { λ r. ⌜ r ≡ countsAs role port (Item.Of source (now (bytes .entry))) ⌝ }
@@ -96,13 +107,40 @@ fn counts_as(role: Role, port: Port, source: Source, bytes: &[u8]) -> bool
 }
 
 // An item is taken in a role by a port, if it counts there.
-fn hear(role: Role, port: Port, source: Source, bytes: &[u8]) -> Reaction
-    ensures { λ r. ⌜ r ≡ heard role port (Item.Of source (now (bytes .entry))) ⌝ }
+fn hear(role: Role, port: Port, source: Source, bytes: &[u8], otherwise: Reaction) -> Reaction
+    ensures { λ r. ⌜ r ≡ heard role port (Item.Of source (now (bytes .entry))) otherwise ⌝ }
 {
     if counts_as(role, port, source, bytes) {
         return Reaction::Takes(role, port);
     }
+    otherwise
+}
+
+// Whether an item stops a session that has opened a port.
+fn is_stopping(port: Port, source: Source, bytes: &[u8]) -> bool
+    ensures { λ r. ⌜ r ≡ stopsBy port (Item.Of source (now (bytes .entry))) ⌝ }
+{
+    match port {
+        Port::Can => false,
+        Port::Serial => is_faulty_byte(source, bytes),
+    }
+}
+
+// What an item does that does not count behind the opening.
+fn pass_over(port: Port, source: Source, bytes: &[u8]) -> Reaction
+    ensures { λ r. ⌜ r ≡ uncounted port (Item.Of source (now (bytes .entry))) ⌝ }
+{
+    if is_stopping(port, source, bytes) {
+        return Reaction::Stops;
+    }
     Reaction::Ignores
+}
+
+// An item behind the opening.
+fn hear_opened(role: Role, port: Port, source: Source, bytes: &[u8]) -> Reaction
+    ensures { λ r. ⌜ r ≡ heardOpened role port (Item.Of source (now (bytes .entry))) ⌝ }
+{
+    hear(role, port, source, bytes, pass_over(port, source, bytes))
 }
 
 // What a stage does with an item.
@@ -110,10 +148,16 @@ pub fn react(stage: Stage, source: Source, bytes: &[u8]) -> Reaction
     ensures { λ r. ⌜ r ≡ reaction stage (Item.Of source (now (bytes .entry))) ⌝ }
 {
     match stage {
-        Stage::Waiting => hear(Role::Password, port_of(source), source, bytes),
-        Stage::Password => hear(Role::Password, Port::Serial, source, bytes),
-        Stage::Header(port) => hear(Role::Header, port, source, bytes),
-        Stage::Data(port, load) => hear(Role::Data(load), port, source, bytes),
+        Stage::Waiting => hear(
+            Role::Password,
+            port_of(source),
+            source,
+            bytes,
+            Reaction::Ignores,
+        ),
+        Stage::Password => hear_opened(Role::Password, Port::Serial, source, bytes),
+        Stage::Header(port) => hear_opened(Role::Header, port, source, bytes),
+        Stage::Data(port, load) => hear_opened(Role::Data(load), port, source, bytes),
         Stage::Stopped(_) => Reaction::Ignores,
         Stage::Jumped(_) => Reaction::Ignores,
     }

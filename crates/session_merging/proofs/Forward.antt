@@ -4,7 +4,7 @@ use native.Mathlib.Omega.{arith}
 use native.Mathlib.Nat.{min-le-left}
 use mathlib.Core.Path.{_≡_, refl, sym, subst, ap, _∙_}
 use mathlib.Core.List.{List, [], _∷_, _++_, map, append-assoc, append-nil}
-use mathlib.Core.Bool.{Bool, true, false, cond, not, and-eq-true-iff, true≢false}
+use mathlib.Core.Bool.{Bool, true, false, cond, not, and-eq-true-iff, true≢false, false≢true}
 use mathlib.Core.Option.{Option, none, some}
 use borrow.Author.Tests.{eqb-true, eqb-false, leb-true, le-leb, lt-leb}
 use lib.Dec.{leb, eqb}
@@ -21,6 +21,7 @@ use Rattle.session_state.specs.declared.Port.{Port}
 use Rattle.session_state.specs.declared.Refusal.{Refusal}
 use Rattle.session_state.specs.declared.Session.{Session}
 use Rattle.session_state.specs.declared.Stage.{Stage}
+use Rattle.session_state.specs.Accepted.{acceptedVle}
 use Rattle.session_state.specs.Sound.{loadFits, countFits}
 use Rattle.session_state.proofs.Laws.{load-fits, sound-fits}
 use Rattle.header.specs.declared.Header.{Header}
@@ -30,18 +31,18 @@ use Rattle.session_items.specs.declared.Reaction.{Reaction}
 use Rattle.session_items.specs.declared.Role.{Role}
 use Rattle.session_items.specs.declared.Source.{Source}
 use Rattle.session_items.specs.Items.{Item, wellFormed, portOf, bytesOf}
-use Rattle.session_items.specs.Reacting.{countsAs, opens, reaction}
-use Rattle.session_items.proofs.Laws.{by-hearing}
+use Rattle.session_items.specs.Reacting.{cleanByte, faultyByte, countsAs, opens, stopsBy, reaction}
+use Rattle.session_items.proofs.Laws.{by-hearing, by-hearing-opened}
 use Rattle.session_answers.specs.declared.Fault.{Fault}
 use Rattle.session_answers.specs.declared.Outcome.{Outcome}
 use Rattle.session_answers.specs.Answers.{outcomeNumber, notTaken}
 use Rattle.session_answers.proofs.Laws.{Accepted}
 use Rattle.session_fresh.specs.Fresh.{freshSession}
 use Rattle.session.specs.declared.Transition.{Transition}
-use Rattle.session.specs.Rules.{enters, stops, received, holds, checked, begun, loaded, loadFrom, jumpOf, advanced, passwordReceived, headerReceived, transition, sramAfter, takenAs}
+use Rattle.session.specs.Rules.{enters, stops, received, holds, checked, begun, loaded, loadFrom, jumpOf, advanced, passwordReceived, headerReceived, transition, sramAfter, takenAs, faulted}
 use Rattle.session.specs.Running.{Call, Run, ran}
-use Rattle.session.proofs.Laws.{Gathered, reacted-in, reacted, step-takes, step-ignores, kept, received-all, received-at-once}
-use Rattle.session_merging.specs.Merging.{pickedPort, only, jumpsIn, cleanBytes, dataBytes, bytesFromHeader, bytesFromPassword, plainFrom, plainHeader, announced, complete, plainJump}
+use Rattle.session.proofs.Laws.{Gathered, reacted-in, reacted, step-takes, step-stops, step-ignores, kept, kept-stopped, received-all, received-at-once}
+use Rattle.session_merging.specs.Merging.{pickedPort, only, jumpsIn, cleanToFault, cleanBytes, dataBytes, bytesFromHeader, bytesFromPassword, plainFrom, plainHeader, announced, complete, plainJump}
 use Rattle.session_merging.proofs.Splitting.{short, unpassed, header-bytes, all-there, announced-there}
 
 -- of one call, its outcome if it gets 5
@@ -70,6 +71,7 @@ none-stopped : (refusal : Refusal) → five (Outcome.Stops refusal) ≡ []
 none-stopped Refusal.Password = refl
 none-stopped Refusal.Length = refl
 none-stopped Refusal.Range = refl
+none-stopped (Refusal.FaultyByte vle) = refl
 
 -- what demand 3 says of a plain list, for a run
 pub record Ends (configuration : Configuration) (sram plain : List ℕ) (run : Run) : Type 0 where
@@ -77,15 +79,24 @@ pub record Ends (configuration : Configuration) (sram plain : List ℕ) (run : R
   pub loads : complete configuration plain ≡ true
       → run .sram ≡ stored sram (plainHeader configuration plain .start .0) (announced configuration plain)
 
+-- a stage that still reads
+abbrev reads : Stage → Bool
+reads Stage.Waiting = true
+reads Stage.Password = true
+reads (Stage.Header port) = true
+reads (Stage.Data port load) = true
+reads (Stage.Stopped refusal) = false
+reads (Stage.Jumped jump) = false
+
 module _ (configuration : Configuration) where
   -- What the rest of a list still gives to the plain list, by stage; a session that has ended reads no more.
   abbrev rest : Stage → List Item → List ℕ
   rest Stage.Waiting items = plainFrom configuration (pickedPort items) items
-  rest Stage.Password items = cleanBytes items
+  rest Stage.Password items = cleanToFault items
   rest (Stage.Header Port.Can) items = bytesFromHeader configuration items
-  rest (Stage.Header Port.Serial) items = cleanBytes items
+  rest (Stage.Header Port.Serial) items = cleanToFault items
   rest (Stage.Data Port.Can load) items = dataBytes (load .owed) items
-  rest (Stage.Data Port.Serial load) items = cleanBytes items
+  rest (Stage.Data Port.Serial load) items = cleanToFault items
   rest (Stage.Stopped refusal) items = []
   rest (Stage.Jumped jump) items = []
 
@@ -106,30 +117,47 @@ module _ (configuration : Configuration) where
   opening-taken (Item.Of (Source.Can identifier) bytes) items e = rw (e, e)
   opening-taken (Item.Of (Source.Serial mark) bytes) items e = rw (e, e)
 
+  -- a faulty byte behind it ends the list
+  fault-ends : (item : Item) (items : List Item) → cleanByte item ≡ false → faultyByte item ≡ true → cleanToFault (item ∷ items) ≡ []
+  unfolding cleanToFault
+  fault-ends item items e f = rw (e, f)
+
   -- a header frame, and the bytes of a header, are followed by data
-  header-passed : (port : Port) (item : Item) (items : List Item) → countsAs Role.Header port item ≡ false
+  header-passed : (port : Port) (item : Item) (items : List Item) → countsAs Role.Header port item ≡ false → stopsBy port item ≡ false
       → rest (Stage.Header port) (item ∷ items) ≡ rest (Stage.Header port) items
-  unfolding bytesFromHeader cleanBytes
-  header-passed Port.Can item items e = rw e
-  header-passed Port.Serial item items e = rw e
+  unfolding bytesFromHeader cleanToFault
+  header-passed Port.Can item items e f = rw e
+  header-passed Port.Serial item items e f = rw (e, f)
+
+  header-ends : (port : Port) (item : Item) (items : List Item) → countsAs Role.Header port item ≡ false → stopsBy port item ≡ true
+      → rest (Stage.Header port) (item ∷ items) ≡ []
+  header-ends Port.Can item items e f = absurd (false≢true f)
+  header-ends Port.Serial item items e f = fault-ends item items e f
 
   header-taken : (port : Port) (item : Item) (items : List Item) → countsAs Role.Header port item ≡ true
       → rest (Stage.Header port) (item ∷ items)
       ≡ bytesOf item ++ rest (Stage.Data port (loadFrom (headerRead configuration (bytesOf item)))) items
-  unfolding bytesFromHeader cleanBytes
+  unfolding bytesFromHeader cleanToFault
   header-taken Port.Can item items e = rw e
   header-taken Port.Serial item items e = rw e
 
   data-passed : (port : Port) (load : Load) (item : Item) (items : List Item) → countsAs (Role.Data load) port item ≡ false
+      → stopsBy port item ≡ false
       → rest (Stage.Data port load) (item ∷ items) ≡ rest (Stage.Data port load) items
-  unfolding dataBytes cleanBytes
-  data-passed Port.Can load item items e = rw e
-  data-passed Port.Serial load item items e = rw e
+  unfolding dataBytes cleanToFault
+  data-passed Port.Can load item items e f = rw e
+  data-passed Port.Serial load item items e f = rw (e, f)
+
+  data-ends : (port : Port) (load : Load) (item : Item) (items : List Item) → countsAs (Role.Data load) port item ≡ false
+      → stopsBy port item ≡ true
+      → rest (Stage.Data port load) (item ∷ items) ≡ []
+  data-ends Port.Can load item items e f = absurd (false≢true f)
+  data-ends Port.Serial load item items e f = fault-ends item items e f
 
   data-taken : (port : Port) (load : Load) (item : Item) (items : List Item) → countsAs (Role.Data load) port item ≡ true
       → rest (Stage.Data port load) (item ∷ items)
       ≡ bytesOf item ++ rest (Stage.Data port (advanced load (length (bytesOf item)))) items
-  unfolding dataBytes cleanBytes
+  unfolding dataBytes cleanToFault
   data-taken Port.Can load item items e = rw e
   data-taken Port.Serial load item items e = rw e
 
@@ -379,6 +407,43 @@ module _
         (λ e. rw (by-serial port all can e) (rw (by-serial port all can e) at shape))
         (begun-on port all (knows .1) (knows .2) (rw (knows .0) at shape)))
 
+  -- Nothing more comes: the plain list is not complete.
+
+  -- at most as many bytes are held as are counted
+  held-few : (session : Session) → length (take (session .count) (session .held) ++ []) ≤ session .count
+  held-few session =
+      rw append-nil (omega (arith, length-take (session .count) (session .held), min-le-left (session .count) (length (session .held))))
+
+  module _ {session : Session} {m : List ℕ} {items : List Item} where
+    too-short : {stage : Stage} (s : Before stage session m items) → rest configuration stage items ≡ []
+        → length (s .before) ≤ 8 → session .count ≤ 7 → complete configuration plain ≡ false
+    too-short s none-left few count =
+        let shape = rw none-left at (s .shape) in
+        let lengths = length-append (s .before) (take (session .count) (session .held) ++ []) in
+        short configuration plain (omega (arith, ap length shape, held-few session))
+
+    cut-off : (stage : Stage) (s : Before stage session m items) → countFits (session .configuration) stage (session .count) ≡ true
+        → rest configuration stage items ≡ [] → reads stage ≡ true → complete configuration plain ≡ false
+    cut-off Stage.Waiting s fine none-left r =
+        too-short s none-left (rw (s .knows .0) (omega arith)) (omega (arith, eqb-true (session .count) 0 fine))
+    cut-off Stage.Password s fine none-left r =
+        let both = and-eq-true-iff (leb 1 (session .count)) (leb (session .count) 7) .0 fine in
+        too-short s none-left (rw (s .knows .0) (omega arith)) (leb-true (session .count) 7 (both .1))
+    cut-off (Stage.Header Port.Can) s fine none-left r =
+        too-short s none-left (rw (s .knows .0) (omega arith)) (omega (arith, eqb-true (session .count) 0 fine))
+    cut-off (Stage.Header Port.Serial) s fine none-left r =
+        too-short s none-left (rw (s .knows .0) (omega arith)) (leb-true (session .count) 7 fine)
+    cut-off (Stage.Data port load) s fine none-left r =
+        let both = and-eq-true-iff (eqb (session .count) 0) (loadFits (session .configuration) load) .0 fine in
+        bytes-missing (take (session .count) (session .held) ++ []) (s .knows) (rw none-left at (s .shape))
+        (omega (arith, held-few session, eqb-true (session .count) 0 (both .0), load-fits (session .configuration) load (both .1) .some-owed))
+    cut-off (Stage.Stopped refusal) s fine none-left r = absurd (false≢true r)
+    cut-off (Stage.Jumped jump) s fine none-left r = absurd (false≢true r)
+
+  unfinished : (session : Session) (m : List ℕ) → complete configuration plain ≡ false → Done jumpsAsked (ran session m [])
+  unfolding ran only
+  unfinished session m e = record { made = rw e; loads = λ c. absurd (true≢false (sym c ∙ e)) }
+
   -- One call.
 
   -- the bytes of an item that is taken come behind those held
@@ -393,6 +458,7 @@ module _
       rest configuration stage (item ∷ items) ≡ rest configuration stage items
   After stage session m item items (Reaction.Takes role port) =
       Onward (due stage) (sramAfter role session m (bytesOf item)) items (transition role session port (bytesOf item))
+  After stage session m item items Reaction.Stops = (due stage ≡ jumpsAsked) × (complete configuration plain ≡ false)
 
   module _ (session : Session) (m : List ℕ) (item : Item) (items : List Item) where
     password-taken : (stage : Stage) (port : Port) (s : Before stage session m (item ∷ items)) → due stage ≡ jumpsAsked
@@ -416,86 +482,58 @@ module _
 
     call-on : (stage : Stage) → countFits (session .configuration) stage (session .count) ≡ true
         → Before stage session m (item ∷ items) → After stage session m item items (reaction stage item)
-    unfolding reaction transition sramAfter pickedPort cleanBytes
+    unfolding reaction transition sramAfter pickedPort cleanToFault
     call-on Stage.Waiting fine s =
-        by-hearing (After Stage.Waiting session m item items) Role.Password (portOf item) item
+        by-hearing (After Stage.Waiting session m item items) Role.Password (portOf item) item Reaction.Ignores
         (λ e. let taken = rw e at (reacted-in session item Stage.Waiting fine) in
         password-taken Stage.Waiting (portOf item) s refl (s .knows) (opening-taken configuration item items e) (taken .placed))
         (λ e. rw e (plain-passed configuration (pickedPort items) item items e))
     call-on Stage.Password fine s =
-        by-hearing (After Stage.Password session m item items) Role.Password Port.Serial item
+        by-hearing-opened (After Stage.Password session m item items) Role.Password Port.Serial item
         (λ e. let taken = rw e at (reacted-in session item Stage.Password fine) in
         password-taken Stage.Password Port.Serial s refl (s .knows) (rw e) (taken .placed))
-        (λ e. rw e)
+        (λ f e. (refl, cut-off Stage.Password s fine (fault-ends configuration item items e f) refl))
+        (λ f e. rw (e, f))
     call-on (Stage.Header port) fine s =
         let all = received session (bytesOf item) in
         let later = rest configuration (Stage.Data port (loadFrom (headerOf all))) items in
-        by-hearing (After (Stage.Header port) session m item items) Role.Header port item
+        by-hearing-opened (After (Stage.Header port) session m item items) Role.Header port item
         (λ e. let taken = rw e at (reacted-in session item (Stage.Header port) fine) in
         let whole = received-at-once session (bytesOf item) (taken .placed) in
         let behind = header-behind port (λ can. whole can .0) in
         header-on session m items (s .same) port (s .before) all (s .knows)
         (joined s later (header-taken configuration port item items e ∙ ap (λ (l : List ℕ). bytesOf item ++ l) behind))
         (λ can. whole can .1))
-        (λ e. header-passed configuration port item items e)
+        (λ f e. (refl, cut-off (Stage.Header port) s fine (header-ends configuration port item items e f) refl))
+        (λ f e. header-passed configuration port item items e f)
     call-on (Stage.Data port load) fine s =
         let bytes = bytesOf item in
         let later = rest configuration (Stage.Data port (advanced load (length bytes))) items in
-        by-hearing (After (Stage.Data port load) session m item items) (Role.Data load) port item
+        by-hearing-opened (After (Stage.Data port load) session m item items) (Role.Data load) port item
         (λ e. let placed = (rw e at (reacted-in session item (Stage.Data port load) fine)) .placed in
         loaded-on session (stored m (load .next) bytes) items (s .same) port load (s .before ++ bytes) bytes
         (further bytes (s .knows) (placed .2))
         (joined s later (data-taken configuration port load item items e) ∙ rw (received-all session bytes (placed .0), append-assoc)))
-        (λ e. data-passed configuration port load item items e)
+        (λ f e. (refl, cut-off (Stage.Data port load) s fine (data-ends configuration port load item items e f) refl))
+        (λ f e. data-passed configuration port load item items e f)
     call-on (Stage.Stopped refusal) fine s = refl
     call-on (Stage.Jumped jump) fine s = refl
 
   -- The end of the list.
 
-  unfinished : (session : Session) (m : List ℕ) → complete configuration plain ≡ false → Done jumpsAsked (ran session m [])
-  unfolding ran only
-  unfinished session m e = record { made = rw e; loads = λ c. absurd (true≢false (sym c ∙ e)) }
-
-  -- at most as many bytes are held as are counted
-  held-few : (session : Session) → length (take (session .count) (session .held) ++ []) ≤ session .count
-  held-few session =
-      rw append-nil (omega (arith, length-take (session .count) (session .held), min-le-left (session .count) (length (session .held))))
-
-  too-short : {stage : Stage} {session : Session} {m : List ℕ} (s : Before stage session m []) → rest configuration stage [] ≡ []
-      → length (s .before) ≤ 8 → session .count ≤ 7 → Done jumpsAsked (ran session m [])
-  too-short {session = session} {m = m} s none-left few count =
-      let shape = rw none-left at (s .shape) in
-      let lengths = length-append (s .before) (take (session .count) (session .held) ++ []) in
-      unfinished session m (short configuration plain (omega (arith, ap length shape, held-few session)))
-
-  data-short : {port : Port} {load : Load} {session : Session} {m : List ℕ} → Before (Stage.Data port load) session m []
-      → rest configuration (Stage.Data port load) [] ≡ []
-      → countFits (session .configuration) (Stage.Data port load) (session .count) ≡ true
-      → Done jumpsAsked (ran session m [])
-  data-short {load = load} {session = session} {m = m} s none-left fine =
-      let both = and-eq-true-iff (eqb (session .count) 0) (loadFits (session .configuration) load) .0 fine in
-      unfinished session m
-      (bytes-missing (take (session .count) (session .held) ++ []) (s .knows) (rw none-left at (s .shape))
-      (omega (arith, held-few session, eqb-true (session .count) 0 (both .0), load-fits (session .configuration) load (both .1) .some-owed)))
-
   ended : (stage : Stage) (session : Session) (m : List ℕ) → countFits (session .configuration) stage (session .count) ≡ true
       → Before stage session m [] → Done (due stage) (ran session m [])
-  unfolding ran only pickedPort cleanBytes bytesFromHeader dataBytes
-  ended Stage.Waiting session m fine s =
-      too-short s refl (rw (s .knows .0) (omega arith)) (omega (arith, eqb-true (session .count) 0 fine))
-  ended Stage.Password session m fine s =
-      let both = and-eq-true-iff (leb 1 (session .count)) (leb (session .count) 7) .0 fine in
-      too-short s refl (rw (s .knows .0) (omega arith)) (leb-true (session .count) 7 (both .1))
-  ended (Stage.Header Port.Can) session m fine s =
-      too-short s refl (rw (s .knows .0) (omega arith)) (omega (arith, eqb-true (session .count) 0 fine))
-  ended (Stage.Header Port.Serial) session m fine s =
-      too-short s refl (rw (s .knows .0) (omega arith)) (leb-true (session .count) 7 fine)
-  ended (Stage.Data Port.Can load) session m fine s = data-short s refl fine
-  ended (Stage.Data Port.Serial load) session m fine s = data-short s refl fine
+  unfolding ran only pickedPort cleanToFault bytesFromHeader dataBytes
+  ended Stage.Waiting session m fine s = unfinished session m (cut-off Stage.Waiting s fine refl refl)
+  ended Stage.Password session m fine s = unfinished session m (cut-off Stage.Password s fine refl refl)
+  ended (Stage.Header Port.Can) session m fine s = unfinished session m (cut-off (Stage.Header Port.Can) s fine refl refl)
+  ended (Stage.Header Port.Serial) session m fine s = unfinished session m (cut-off (Stage.Header Port.Serial) s fine refl refl)
+  ended (Stage.Data Port.Can load) session m fine s = unfinished session m (cut-off (Stage.Data Port.Can load) s fine refl refl)
+  ended (Stage.Data Port.Serial load) session m fine s = unfinished session m (cut-off (Stage.Data Port.Serial load) s fine refl refl)
   ended (Stage.Stopped refusal) session m fine s = unfinished session m (s .knows)
   ended (Stage.Jumped jump) session m fine s = record { made = refl; loads = λ c. s .knows }
 
-  -- All calls: each takes its item or passes it by.
+  -- All calls: each takes its item, is stopped by it, or passes it by.
 
   run-next : (session : Session) (m : List ℕ) (item : Item) (items : List Item) (r : Reaction) → reaction (session .stage) item ≡ r
       → After (session .stage) session m item items r
@@ -510,6 +548,11 @@ module _
       let end = later (next .session) (sramAfter role session m (bytesOf item)) (kept session m item role port taken ok) (on .onward) in
       let takes = step-takes session m item ok role port e in
       record { made = jumps-next _ _ ∙ rw (takes, end .made) (on .made); loads = rw takes (end .loads) }
+  run-next session m item items Reaction.Stops e on ok s later =
+      let on-stop = stops-on session m items (s .same) (Refusal.FaultyByte (acceptedVle (session .stage))) (on .1) in
+      let end = later (faulted session .session) m (kept-stopped session m ok) (on-stop .onward) in
+      let stopped = step-stops session m item ok e in
+      record { made = jumps-next _ _ ∙ rw (stopped, end .made) (on-stop .made ∙ sym (on .0)); loads = rw stopped (end .loads) }
   run-next session m item items Reaction.Ignores e on ok s later =
       let passed = step-ignores session m item ok e in
       let end = later session m ok (record { same = s .same; before = s .before; shape = rw on at (s .shape); knows = s .knows }) in

@@ -19,16 +19,16 @@ use Rattle.header.specs.Reading.{headerRead, validated}
 use Rattle.session_items.specs.declared.Reaction.{Reaction}
 use Rattle.session_items.specs.declared.Role.{Role}
 use Rattle.session_items.specs.Items.{Item, portOf, bytesOf}
-use Rattle.session_items.specs.Reacting.{opens, reaction}
-use Rattle.session_items.proofs.Laws.{by-hearing}
+use Rattle.session_items.specs.Reacting.{opens, heardOpened, reaction}
+use Rattle.session_items.proofs.Laws.{by-hearing-opened, stopping-own}
 use Rattle.session_answers.specs.declared.Outcome.{Outcome}
 use Rattle.session_answers.specs.Answers.{notTaken, unchanged}
 use Rattle.session_answers.proofs.Laws.{Accepted}
 use Rattle.session_fresh.specs.Fresh.{freshSession}
 use Rattle.session.specs.declared.Transition.{Transition}
-use Rattle.session.specs.Rules.{transition, sramAfter, takenAs, step, received, enters, stops, holds, passwordReceived, headerReceived, checked, begun, loaded, jumpOf, advanced}
+use Rattle.session.specs.Rules.{transition, sramAfter, takenAs, faulted, step, received, enters, stops, holds, passwordReceived, headerReceived, checked, begun, loaded, jumpOf, advanced}
 use Rattle.session.specs.Running.{Call, Run, ran}
-use Rattle.session.proofs.Laws.{Placed, reacted, step-takes, step-ignores, kept, received-at-once}
+use Rattle.session.proofs.Laws.{Placed, reacted, step-takes, step-stops, step-ignores, kept, kept-stopped, received-at-once}
 use Rattle.session_merging.specs.Merging.{pickedPort, samePort, inStream, only, callOutside}
 
 -- the stage takes items of no other port than this one
@@ -44,17 +44,22 @@ pub same-own : (port : Port) → samePort port port ≡ true
 same-own Port.Can = refl
 same-own Port.Serial = refl
 
--- an item that such a stage takes is taken by this port
-abbrev OpenedBy : Port → Reaction → Type 0
-OpenedBy port Reaction.Ignores = Unit {0}
-OpenedBy port (Reaction.Takes role by) = samePort port by ≡ true
+-- an item that such a stage takes, or is stopped by, is of this port
+abbrev OpenedBy : Port → Item → Reaction → Type 0
+OpenedBy port item Reaction.Ignores = Unit {0}
+OpenedBy port item (Reaction.Takes role by) = samePort port by ≡ true
+OpenedBy port item Reaction.Stops = samePort port (portOf item) ≡ true
 
-opened-by : (port : Port) (stage : Stage) (item : Item) → opened port stage ≡ true → OpenedBy port (reaction stage item)
+heard-by : (port : Port) (role : Role) (ours : Port) (item : Item) → samePort port ours ≡ true → OpenedBy port item (heardOpened role ours item)
+heard-by port role ours item t =
+    by-hearing-opened (OpenedBy port item) role ours item (λ e. t) (λ f e. rw (stopping-own ours item f .1) t) (λ f e. tt)
+
+opened-by : (port : Port) (stage : Stage) (item : Item) → opened port stage ≡ true → OpenedBy port item (reaction stage item)
 unfolding reaction
 opened-by port Stage.Waiting item t = absurd (false≢true t)
-opened-by port Stage.Password item t = by-hearing (OpenedBy port) Role.Password Port.Serial item (λ e. t) (λ e. tt)
-opened-by port (Stage.Header ours) item t = by-hearing (OpenedBy port) Role.Header ours item (λ e. t) (λ e. tt)
-opened-by port (Stage.Data ours load) item t = by-hearing (OpenedBy port) (Role.Data load) ours item (λ e. t) (λ e. tt)
+opened-by port Stage.Password item t = heard-by port Role.Password Port.Serial item t
+opened-by port (Stage.Header ours) item t = heard-by port Role.Header ours item t
+opened-by port (Stage.Data ours load) item t = heard-by port (Role.Data load) ours item t
 opened-by port (Stage.Stopped refusal) item t = tt
 opened-by port (Stage.Jumped jump) item t = tt
 
@@ -106,7 +111,7 @@ Along wanted session sram (item ∷ items) =
     (wanted item ≡ false → step session sram item ≡ unchanged (notTaken item) session sram)
     × Along wanted (step session sram item .session) (step session sram item .sram) items
 
--- the next call: it takes an item that is wanted, or passes one by
+-- the next call: it takes an item that is wanted, or is stopped by it, or passes one by
 module _ (wanted : Item → Bool) (session : Session) (sram : List ℕ) (item : Item) (items : List Item) (ok : Accepted session sram) where
   along-taken : (role : Role) (port : Port) → reaction (session .stage) item ≡ Reaction.Takes role port → wanted item ≡ true
       → Along wanted (transition role session port (bytesOf item) .session) (sramAfter role session sram (bytesOf item)) items
@@ -114,6 +119,12 @@ module _ (wanted : Item → Bool) (session : Session) (sram : List ℕ) (item : 
   unfolding takenAs
   along-taken role port e want rest =
       (λ unwanted. absurd (true≢false (sym want ∙ unwanted)), rw (step-takes session sram item ok role port e) rest)
+
+  along-stopped : reaction (session .stage) item ≡ Reaction.Stops → wanted item ≡ true
+      → Along wanted (faulted session .session) sram items
+      → Along wanted session sram (item ∷ items)
+  along-stopped e want rest =
+      (λ unwanted. absurd (true≢false (sym want ∙ unwanted)), rw (step-stops session sram item ok e) rest)
 
   along-passed : reaction (session .stage) item ≡ Reaction.Ignores → Along wanted session sram items
       → Along wanted session sram (item ∷ items)
@@ -132,9 +143,13 @@ module _
       (kept session sram item role by taken ok)
       (transition-opens port by session same role (bytesOf item) (taken .placed)))
 
-  along-next : opened port (session .stage) ≡ true → (r : Reaction) → reaction (session .stage) item ≡ r → OpenedBy port r
+  along-next : opened port (session .stage) ≡ true → (r : Reaction) → reaction (session .stage) item ≡ r → OpenedBy port item r
       → Along (inStream (some port)) session sram (item ∷ items)
   along-next t (Reaction.Takes role by) e same = along-takes role by e same
+  along-next t Reaction.Stops e same =
+      along-stopped (inStream (some port)) session sram item items ok e
+      (rw (reacted session item (ok .fine) Reaction.Stops e, same))
+      (rest (faulted session .session) sram (kept-stopped session sram ok) refl)
   along-next t Reaction.Ignores e same =
       along-passed (inStream (some port)) session sram item items ok e (rest session sram ok t)
 

@@ -2,7 +2,7 @@
 use Prim.Native.Nat.{ℕ, _-_}
 use mathlib.Core.Path.{_≡_, refl, sym, subst, _∙_}
 use mathlib.Core.List.{List, [], _∷_, _++_}
-use mathlib.Core.Bool.{Bool, true, false, cond, true≢false}
+use mathlib.Core.Bool.{Bool, true, false, cond, true≢false, false≢true}
 use mathlib.Core.Option.{Option, none, some}
 use lib.ListN.{length}
 use Rattle.session_configuration.specs.declared.Configuration.{Configuration}
@@ -14,43 +14,67 @@ use Rattle.session_state.specs.Sound.{sound}
 use Rattle.header.specs.Reading.{headerRead}
 use Rattle.session_items.specs.declared.Role.{Role}
 use Rattle.session_items.specs.Items.{Item, bytesOf}
-use Rattle.session_items.specs.Reacting.{eightUnder, dataFitting, cleanByte, countsAs}
-use Rattle.session_items.proofs.Laws.{counted}
+use Rattle.session_items.specs.Reacting.{eightUnder, dataFitting, cleanByte, faultyByte, countsAs, stopsBy}
+use Rattle.session_items.proofs.Laws.{counted, stopping-own}
 use Rattle.session_answers.proofs.Laws.{Accepted}
 use Rattle.session_fresh.specs.Fresh.{freshSession}
-use Rattle.session_merging.specs.Merging.{pickedPort, inStream, only, cleanBytes, dataBytes, bytesFromHeader, bytesFromPassword, plainFrom, plainOf, plainHeader, announced, Merging}
+use Rattle.session_merging.specs.Merging.{pickedPort, inStream, only, cleanToFault, cleanBytes, dataBytes, bytesFromHeader, bytesFromPassword, plainFrom, plainOf, plainHeader, announced, Merging}
 use Rattle.session_merging.proofs.Splitting.{announced-in-range}
 use Rattle.session_merging.proofs.Ports.{same-own, Along, passed-along, run-alike, passed-at}
 use Rattle.session_merging.proofs.Forward.{forward}
 
--- what counts by a port is in its stream
+-- what counts by a port is in its stream, and what stops a session of it
 counts-inside : (role : Role) (port : Port) (item : Item) → countsAs role port item ≡ true → inStream (some port) item ≡ true
 counts-inside role port item e = let c = counted role port item e in rw (c .formed, c .own) (same-own port)
+
+stops-inside : (port : Port) (item : Item) → stopsBy port item ≡ true → inStream (some port) item ≡ true
+stops-inside port item e = let own = stopping-own port item e in rw (own .0, own .1) (same-own port)
 
 outside : (test inside : Bool) → (test ≡ true → inside ≡ true) → inside ≡ false → test ≡ false
 outside true inside h e = absurd (true≢false (sym (h refl) ∙ e))
 outside false inside h e = refl
 
--- one item of a reading that takes only what counts by a port
+-- one item of a reading that takes only what counts by a port, and ends only at what is of that port
 module _
-    (port : Port) (reads onward : List Item → List ℕ) (test : Bool) (item : Item) (items : List Item)
-    (one : (rest : List Item) → reads (item ∷ rest) ≡ cond test (bytesOf item ++ onward rest) (reads rest))
+    (port : Port) (reads onward : List Item → List ℕ) (test ends : Bool) (item : Item) (items : List Item)
+    (one : (rest : List Item) → reads (item ∷ rest) ≡ cond test (bytesOf item ++ onward rest) (cond ends [] (reads rest)))
     (inside : test ≡ true → inStream (some port) item ≡ true)
+    (inside-end : ends ≡ true → inStream (some port) item ≡ true)
     (later : onward (only (inStream (some port)) items) ≡ onward items)
     (same : reads (only (inStream (some port)) items) ≡ reads items) where
   item-stream : (b : Bool) → inStream (some port) item ≡ b
       → reads (only (inStream (some port)) (item ∷ items)) ≡ reads (item ∷ items)
   unfolding only
   item-stream true e = rw (e, one (only (inStream (some port)) items), one items, later, same)
-  item-stream false e = rw (e, one items, outside test (inStream (some port) item) inside e) same
+  item-stream false e =
+      rw (e, one items, outside test (inStream (some port) item) inside e, outside ends (inStream (some port) item) inside-end e) same
+
+-- and of one that does not end
+module _
+    (port : Port) (reads onward : List Item → List ℕ) (test : Bool) (item : Item) (items : List Item)
+    (one : (rest : List Item) → reads (item ∷ rest) ≡ cond test (bytesOf item ++ onward rest) (reads rest))
+    (inside : test ≡ true → inStream (some port) item ≡ true)
+    (later : onward (only (inStream (some port)) items) ≡ onward items)
+    (same : reads (only (inStream (some port)) items) ≡ reads items) where
+  endless-stream : reads (only (inStream (some port)) (item ∷ items)) ≡ reads (item ∷ items)
+  endless-stream =
+      item-stream port reads onward test false item items one inside (λ e. absurd (false≢true e)) later same
+      (inStream (some port) item) refl
+
+fault-stream : (items : List Item) → cleanToFault (only (inStream (some Port.Serial)) items) ≡ cleanToFault items
+unfolding only cleanToFault
+fault-stream [] = refl
+fault-stream (item ∷ items) =
+    item-stream Port.Serial cleanToFault cleanToFault (cleanByte item) (faultyByte item) item items (λ rest. refl)
+    (counts-inside Role.Password Port.Serial item) (stops-inside Port.Serial item) (fault-stream items) (fault-stream items)
+    (inStream (some Port.Serial) item) refl
 
 clean-stream : (items : List Item) → cleanBytes (only (inStream (some Port.Serial)) items) ≡ cleanBytes items
 unfolding only cleanBytes
 clean-stream [] = refl
 clean-stream (item ∷ items) =
-    item-stream Port.Serial cleanBytes cleanBytes (cleanByte item) item items (λ rest. refl)
-    (counts-inside Role.Password Port.Serial item) (clean-stream items) (clean-stream items)
-    (inStream (some Port.Serial) item) refl
+    endless-stream Port.Serial cleanBytes cleanToFault (cleanByte item) item items (λ rest. refl)
+    (counts-inside Role.Password Port.Serial item) (fault-stream items) (clean-stream items)
 
 -- a load of which so many bytes are owed
 abbrev owing : ℕ → Load
@@ -61,9 +85,8 @@ unfolding only dataBytes
 data-stream [] owed = refl
 data-stream (item ∷ items) owed =
     let left = owed - length (bytesOf item) in
-    item-stream Port.Can (dataBytes owed) (dataBytes left) (dataFitting owed item) item items (λ rest. refl)
+    endless-stream Port.Can (dataBytes owed) (dataBytes left) (dataFitting owed item) item items (λ rest. refl)
     (counts-inside (Role.Data (owing owed)) Port.Can item) (data-stream items left) (data-stream items owed)
-    (inStream (some Port.Can) item) refl
 
 module _ (configuration : Configuration) where
   header-stream : (items : List Item)
@@ -72,18 +95,16 @@ module _ (configuration : Configuration) where
   header-stream [] = refl
   header-stream (item ∷ items) =
       let count = headerRead configuration (bytesOf item) .length in
-      item-stream Port.Can (bytesFromHeader configuration) (dataBytes count) (eightUnder 0x012 item) item items (λ rest. refl)
+      endless-stream Port.Can (bytesFromHeader configuration) (dataBytes count) (eightUnder 0x012 item) item items (λ rest. refl)
       (counts-inside Role.Header Port.Can item) (data-stream items count) (header-stream items)
-      (inStream (some Port.Can) item) refl
 
   frame-stream : (items : List Item)
       → bytesFromPassword configuration (only (inStream (some Port.Can)) items) ≡ bytesFromPassword configuration items
   unfolding only bytesFromPassword
   frame-stream [] = refl
   frame-stream (item ∷ items) =
-      item-stream Port.Can (bytesFromPassword configuration) (bytesFromHeader configuration) (eightUnder 0x011 item) item items (λ rest. refl)
+      endless-stream Port.Can (bytesFromPassword configuration) (bytesFromHeader configuration) (eightUnder 0x011 item) item items (λ rest. refl)
       (counts-inside Role.Password Port.Can item) (header-stream items) (frame-stream items)
-      (inStream (some Port.Can) item) refl
 
   plain-stream : (picked : Option Port) (items : List Item)
       → plainFrom configuration picked (only (inStream picked) items) ≡ plainFrom configuration picked items

@@ -18,7 +18,7 @@ use Rattle.session_state.specs.Sound.{sound}
 use Rattle.header.specs.declared.Header.{Header}
 use Rattle.header.specs.Reading.{headerRead, fits}
 use Rattle.session_items.specs.Items.{Item, wellFormed, portOf, bytesOf}
-use Rattle.session_items.specs.Reacting.{eightUnder, dataFitting, cleanByte, opens}
+use Rattle.session_items.specs.Reacting.{eightUnder, dataFitting, cleanByte, faultyByte, opens}
 use Rattle.session_answers.specs.declared.Outcome.{Outcome}
 use Rattle.session_answers.specs.Answers.{outcomeNumber, withoutEcho, notTaken, unchanged}
 use Rattle.session_fresh.specs.Fresh.{freshSession}
@@ -48,10 +48,16 @@ only wanted (x ∷ rest) = cond (wanted x) (x ∷ only wanted rest) (only wanted
 abbrev pub streamOf : List Item → List Item
 streamOf items = only (inStream (pickedPort items)) items
 
--- The plain list, of the stream's items alone. "Serial: take the clean bytes in order."
+-- The plain list, of the stream's items alone. "Serial: take the clean bytes in order"; "a faulty byte after the first clean one ends the
+-- plain list" (02, E2).
+unfoldable pub cleanToFault : List Item → List ℕ
+cleanToFault [] = []
+cleanToFault (item ∷ items) =
+    cond (cleanByte item) (bytesOf item ++ cleanToFault items) (cond (faultyByte item) [] (cleanToFault items))
+
 unfoldable pub cleanBytes : List Item → List ℕ
 cleanBytes [] = []
-cleanBytes (item ∷ items) = cond (cleanByte item) (bytesOf item ++ cleanBytes items) (cleanBytes items)
+cleanBytes (item ∷ items) = cond (cleanByte item) (bytesOf item ++ cleanToFault items) (cleanBytes items)
 
 -- CAN: "take the first opening frame, the first 0x012 of 8 bytes after it, then each later 0x013 that fits what is owed, which is here the
 -- announced count less the bytes of the 0x013 frames taken before it"

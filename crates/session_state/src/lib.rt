@@ -1,6 +1,8 @@
-// The stages of a serial session (01, "A serial session"): what a session holds, and when it is sound.
+// The stages of a serial session (01, "A serial session"): what a session holds, when it is sound, and the VLE bit of the header that it
+// has accepted.
 ghost use mathlib.Core.Path.{_≡_};
 ghost use Rattle.session_state.specs.Sound.{loadFits, sound};
+ghost use Rattle.session_state.specs.Accepted.{acceptedVle};
 use session_configuration::Configuration;
 use sram::Aligned;
 
@@ -24,11 +26,13 @@ pub struct Jump {
     pub vle: bool,
 }
 
-// What stopped a session: a password that did not pass, a length of 0, or a load not wholly in SRAM.
+// What stopped a session: a password that did not pass, a length of 0, a load not wholly in SRAM, or a faulty byte, with the VLE bit of the
+// header that had been accepted before it.
 pub enum Refusal {
     Password,
     Length,
     Range,
+    FaultyByte(bool),
 }
 
 // The stages.
@@ -78,5 +82,24 @@ pub fn is_sound(session: Session) -> bool
         Stage::Data(_, load) => (count == 0) & does_load_fit(configuration, load),
         Stage::Stopped(_) => count == 0,
         Stage::Jumped(_) => count == 0,
+    }
+}
+
+// The VLE bit of the header that was accepted.
+pub fn accepted_vle(stage: Stage) -> bool
+    ensures { λ r. ⌜ r ≡ acceptedVle stage ⌝ }
+{
+    match stage {
+        Stage::Waiting => false,
+        Stage::Password => false,
+        Stage::Header(_) => false,
+        Stage::Data(_, load) => load.vle,
+        Stage::Stopped(refusal) => match refusal {
+            Refusal::Password => false,
+            Refusal::Length => false,
+            Refusal::Range => false,
+            Refusal::FaultyByte(vle) => vle,
+        },
+        Stage::Jumped(jump) => jump.vle,
     }
 }

@@ -9,7 +9,7 @@ use Rattle.session_state.specs.Sound.{sound}
 use Rattle.session_items.specs.declared.Reaction.{Reaction}
 use Rattle.session_items.specs.Items.{Item, wellFormed}
 use Rattle.session_items.specs.Reacting.{reaction}
-use Rattle.cases_answers.proofs.Answering.{Tested, exactly, kept, unmoved, echoed, jumps, leaves}
+use Rattle.cases_answers.proofs.Answering.{Tested, exactly, kept, unmoved, echoed, silent, jumps, leaves, accepted}
 use Rattle.cases_answers.proofs.rows_hold.Statement.{statement}
 use Rattle.cases_answers.proofs.rows_hold.Tie as tie
 
@@ -27,9 +27,11 @@ returns c =
       only-0-and-5 = λ session sram item. by-tests session sram item (kept session sram item);
       unmoved = λ session sram item. by-tests session sram item (unmoved session sram item);
       echoed = λ session sram item. by-tests session sram item (echoed session sram item);
+      silent = λ session sram item. by-tests session sram item (silent session sram item);
       jumps = λ session sram item port load s.
-          jumps session sram item port load s _ _ _ _ _ refl refl refl refl refl;
+          jumps session sram item port load s _ _ _ _ _ _ refl refl refl refl refl refl;
       leaves = λ session sram item. by-tests session sram item (leaves session sram item);
+      stays-accepted = λ session sram item. by-tests session sram item (accepted session sram item);
     }
 
 pub rows-hold-spec : {M : Type 1} → statement M

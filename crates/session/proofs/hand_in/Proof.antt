@@ -1,4 +1,4 @@
--- `session::hand_in` meets its contract: what the precheck refuses, the bytes taken, and an item ignored.
+-- `session::hand_in` meets its contract: what the precheck refuses, an item ignored, the bytes taken, and a fault.
 use mathlib.Core.Path.{sym, _∙_}
 use denote.Ref.{now}
 use Rattle.session_items.specs.Items.{Item}
@@ -36,6 +36,12 @@ enum-told c = search needs
 react-requires : tie.Need-react-requires
 react-requires c κs = search needs
 
+enum-told-2 : tie.Need-enum-told-2
+enum-told-2 c = search needs
+
+take-nothing-requires-2 : tie.Need-take-nothing-requires-2
+take-nothing-requires-2 c κs = search needs
+
 enum-known-reaction : tie.Need-enum-known-reaction
 enum-known-reaction c = search needs
 
@@ -50,12 +56,36 @@ take-requires c κs =
     (rw (check .before .is-formed .ensures) at (sym (check .precheck .ensures) ∙ passed .enum-told .given .1))
     (sym (taken .before .before .react .ensures) ∙ taken .reaction .given .1)
 
+enum-told-3 : tie.Need-enum-told-3
+enum-told-3 c = search needs
+
+stop-at-fault-requires : tie.Need-stop-at-fault-requires
+stop-at-fault-requires c κs = search needs
+
 same-length-2 : tie.Need-same-length-2
 same-length-2 c = search needs
 
 returns-2 : tie.Need-returns-2
 unfolding step
 returns-2 c =
+    let ignored = c .before in
+    let passed = ignored .before .before .before in
+    let check = passed .before .before in
+    rw (
+      c .take-nothing2 .ensures,
+      ← check .before .is-formed .ensures,
+      ← check .precheck .ensures,
+      passed .enum-told .given .1,
+      ← ignored .before .before .react .ensures,
+      ignored .enum-told2 .given .1,
+    )
+
+same-length-3 : tie.Need-same-length-3
+same-length-3 c = search needs
+
+returns-3 : tie.Need-returns-3
+unfolding step
+returns-3 c =
     let taken = c .before .before .before .before .before in
     let passed = taken .before .before .before in
     let check = passed .before .before in
@@ -68,28 +98,22 @@ returns-2 c =
       taken .reaction .given .1,
     )
 
-enum-told-2 : tie.Need-enum-told-2
-enum-told-2 c = search needs
+same-length-4 : tie.Need-same-length-4
+same-length-4 c = search needs
 
-take-nothing-requires-2 : tie.Need-take-nothing-requires-2
-take-nothing-requires-2 c κs = search needs
-
-same-length-3 : tie.Need-same-length-3
-same-length-3 c = search needs
-
-returns-3 : tie.Need-returns-3
+returns-4 : tie.Need-returns-4
 unfolding step
-returns-3 c =
-    let ignored = c .before in
-    let passed = ignored .before .before .before in
+returns-4 c =
+    let faulty = c .before in
+    let passed = faulty .before .before .before in
     let check = passed .before .before in
     rw (
-      c .take-nothing2 .ensures,
+      c .stop-at-fault .ensures,
       ← check .before .is-formed .ensures,
       ← check .precheck .ensures,
       passed .enum-told .given .1,
-      ← ignored .before .before .react .ensures,
-      ignored .enum-told2 .given .1,
+      ← faulty .before .before .react .ensures,
+      faulty .enum-told3 .given .1,
     )
 
 pub hand-in-spec : {M : Type 1} → statement M
@@ -104,11 +128,15 @@ hand-in-spec =
     returns
     enum-told
     react-requires
-    enum-known-reaction
-    take-requires
-    same-length-2
-    returns-2
     enum-told-2
     take-nothing-requires-2
+    enum-known-reaction
+    take-requires
+    enum-told-3
+    stop-at-fault-requires
+    same-length-2
+    returns-2
     same-length-3
-    returns-3)
+    returns-3
+    same-length-4
+    returns-4)

@@ -16,20 +16,20 @@ hear-requires c κs = search needs
 enum-told-2 : tie.Need-enum-told-2
 enum-told-2 c = search needs
 
-hear-requires-2 : tie.Need-hear-requires-2
-hear-requires-2 c κs = search needs
+hear-opened-requires : tie.Need-hear-opened-requires
+hear-opened-requires c κs = search needs
 
 enum-known-stage : tie.Need-enum-known-stage
 enum-known-stage c = search needs
 
-hear-requires-3 : tie.Need-hear-requires-3
-hear-requires-3 c κs = search needs
+hear-opened-requires-2 : tie.Need-hear-opened-requires-2
+hear-opened-requires-2 c κs = search needs
 
 enum-known-stage-2 : tie.Need-enum-known-stage-2
 enum-known-stage-2 c = search needs
 
-hear-requires-4 : tie.Need-hear-requires-4
-hear-requires-4 c κs = search needs
+hear-opened-requires-3 : tie.Need-hear-opened-requires-3
+hear-opened-requires-3 c κs = search needs
 
 enum-told-3 : tie.Need-enum-told-3
 enum-told-3 c = search needs
@@ -43,15 +43,15 @@ returns c = rw (c .hear .ensures, c .before .port-of .ensures, c .before .before
 
 returns-2 : tie.Need-returns-2
 unfolding reaction
-returns-2 c = rw (c .hear2 .ensures, c .before .enum-told2 .given .1)
+returns-2 c = rw (c .hear-opened .ensures, c .before .enum-told2 .given .1)
 
 returns-3 : tie.Need-returns-3
 unfolding reaction
-returns-3 c = rw (c .hear3 .ensures, c .before .before .stage .given .1)
+returns-3 c = rw (c .hear-opened2 .ensures, c .before .before .stage .given .1)
 
 returns-4 : tie.Need-returns-4
 unfolding reaction
-returns-4 c = rw (c .hear4 .ensures, c .before .before .stage2 .given .1)
+returns-4 c = rw (c .hear-opened3 .ensures, c .before .before .stage2 .given .1)
 
 returns-5 : tie.Need-returns-5
 unfolding reaction
@@ -69,11 +69,11 @@ react-spec =
     port-of-requires
     hear-requires
     enum-told-2
-    hear-requires-2
+    hear-opened-requires
     enum-known-stage
-    hear-requires-3
+    hear-opened-requires-2
     enum-known-stage-2
-    hear-requires-4
+    hear-opened-requires-3
     enum-told-3
     enum-told-4
     returns
