@@ -21,6 +21,10 @@ opened = frameOf8 0x11 (0xFE ∷ 0xED ∷ 0xFA ∷ 0xCE ∷ 0xCA ∷ 0xFE ∷ 0x
 abbrev announced : List ℕ
 announced = opened ++ frameOf8 0x12 (0x40 ∷ 0x00 ∷ 0x00 ∷ 0x00 ∷ 0x00 ∷ 0x00 ∷ 0x00 ∷ 0x01 ∷ [])
 
+-- a serial byte of a kind
+abbrev serial : ℕ → ℕ → List ℕ
+serial kind byte = 0x00 ∷ 0x03 ∷ 0x01 ∷ kind ∷ byte ∷ []
+
 -- a reset
 abbrev reset : List ℕ
 reset = 0x00 ∷ 0x02 ∷ 0x01 ∷ 0x04 ∷ []
@@ -40,8 +44,9 @@ sampleTable =
     -- "A reset is a new boot choice": a session that a wrong password stopped opens again, and stops at a header of length 0
     ∷ trial (textOf (frameOf8 0x11 (replicate 8 0x11) ++ reset ++ opened ++ frameOf8 0x12 (replicate 8 0)))
     (ascii "1 2 1111111111111111\n2 0 -\n3 0 FEEDFACECAFEBEEF\n4 3 0000000000000000\nend stopped 3\n")
-    -- "Kind .. 3 a faulty serial byte": ignored; and a record that is cut
-    ∷ trial (textOf (0x00 ∷ 0x03 ∷ 0x01 ∷ 0x03 ∷ 0xFE ∷ 0x00 ∷ 0x03 ∷ 0x01 ∷ 0x02 ∷ [])) (ascii "1 1 -\n2 10 -\nend waiting\n")
+    -- "Kind 2 a clean, kind 3 a faulty serial byte": a faulty one before the opening, and one behind it (02, E2); and a record that is cut
+    ∷ trial (textOf (serial 3 0xFE ++ serial 2 0xFE ++ serial 3 0xED ++ serial 2 0xED ++ 0x00 ∷ 0x03 ∷ 0x01 ∷ 0x02 ∷ []))
+    (ascii "1 1 -\n2 0 FE\n3 12 -\n4 1 -\n5 10 -\nend stopped 12\n")
     -- "A 10 prints its line with "-" and ends the reading.": here for identifier 2,048, with a reset behind it
     ∷ trial (textOf (0x00 ∷ 0x04 ∷ 0x01 ∷ 0x01 ∷ 0x08 ∷ 0x00 ∷ 0x00 ∷ 0x02 ∷ 0x01 ∷ 0x04 ∷ []))
     (ascii "1 10 -\nend waiting\n")

@@ -1,12 +1,13 @@
--- Lists of calls for demand 3: by CAN one that jumps, by serial one that does not and one that does, each with both ports, faulty bytes and a frame refused for
--- its form, and one with no opening.
+-- Lists of calls for demand 3: by CAN one that jumps, by serial one that a faulty byte ends and one that jumps, each with both ports, faulty bytes and a frame
+-- refused for its form; faulty bytes in the password and in the header; and a list with no opening.
 use Prim.Native.Nat.{ℕ}
 use mathlib.Core.List.{List, [], _∷_, _++_, map}
-use mathlib.Core.Bool.{true, false}
+use mathlib.Core.Bool.{Bool, true, false}
 use mathlib.Core.Option.{none}
-use lib.ListN.{take, replicate}
+use lib.ListN.{take, drop, replicate}
 use Rattle.boot_table.specs.Table.{publicPassword}
-use Rattle.session_state.specs.declared.Port.{Port}
+use Rattle.session_state.specs.declared.Refusal.{Refusal}
+use Rattle.session_state.specs.declared.Session.{Session}
 use Rattle.session_state.specs.declared.Stage.{Stage}
 use Rattle.session_items.specs.declared.Source.{Source}
 use Rattle.session_items.specs.Items.{Item}
@@ -68,26 +69,41 @@ jumping =
 abbrev cleanAll : List ℕ → List Item
 cleanAll bytes = map clean bytes
 
--- the rest of the public password, and a header: start 0x40000004, 2 bytes
-abbrev opened : List Item
-opened =
-    cleanAll (0xED ∷ 0xFA ∷ 0xCE ∷ 0xCA ∷ 0xFE ∷ 0xBE ∷ 0xEF ∷ [])
-    ++ cleanAll (0x40 ∷ 0x00 ∷ 0x00 ∷ 0x04 ∷ 0x00 ∷ 0x00 ∷ 0x00 ∷ 0x02 ∷ [])
+-- start 0x40000004, VLE, 2 bytes
+abbrev shortHeader : List ℕ
+shortHeader = 0x40 ∷ 0x00 ∷ 0x00 ∷ 0x04 ∷ 0x80 ∷ 0x00 ∷ 0x00 ∷ 0x02 ∷ []
 
--- by serial: of the 2 bytes announced the second comes faulty
-abbrev lacking : List Item
-lacking =
+-- the rest of the public password, and that header
+abbrev opened : List Item
+opened = cleanAll (0xED ∷ 0xFA ∷ 0xCE ∷ 0xCA ∷ 0xFE ∷ 0xBE ∷ 0xEF ∷ []) ++ cleanAll shortHeader
+
+-- by serial, up to the first of the 2 bytes announced
+abbrev begun : List Item
+begun =
     (faulty 0xFE ∷ frame 0x013 (0x77 ∷ []) ∷ clean 0xFE ∷ frame 0x011 publicPassword ∷ [])
     ++ opened
-    ++ (clean 0xAA ∷ frame 0x011 (replicate 9 0) ∷ faulty 0xBB ∷ [])
+    ++ (clean 0xAA ∷ frame 0x011 (replicate 9 0) ∷ [])
 
--- and then clean, with one byte more
+-- the second comes faulty, then clean
+abbrev lacking : List Item
+lacking = begun ++ (faulty 0xBB ∷ clean 0xBB ∷ faulty 0xCC ∷ [])
+
+-- it comes clean, and another byte faulty
 abbrev finished : List Item
-finished = lacking ++ (clean 0xBB ∷ clean 0xCC ∷ [])
+finished = begun ++ (clean 0xBB ∷ faulty 0xCC ∷ [])
+
+-- a faulty byte behind so many clean ones
+abbrev cutBehind : ℕ → List Item
+cutBehind count = take count (clean 0xFE ∷ opened) ++ (faulty 0xED ∷ clean 0xED ∷ [])
 
 -- no opening: a faulty byte, and frames that open nothing
 abbrev silent : List Item
 silent = faulty 0xFE ∷ frame 0x012 vleHeader ∷ frame 0x011 (0xFE ∷ []) ∷ []
+
+-- a session that a faulty byte stopped: nothing is held, and the VLE bit is that of the header accepted
+abbrev stoppedWith : Bool → Session
+stoppedWith vle =
+    record { configuration = public; stage = Stage.Stopped (Refusal.FaultyByte vle); held = replicate 8 0; count = 0 }
 
 unfoldable pub listTable : List Case
 listTable =
@@ -122,19 +138,28 @@ listTable =
     ∷ trial (runOf jumping .sram) (replicate 8 0xEE ++ (0xAA ∷ 0xBB ∷ 0xCC ∷ []) ++ replicate 65525 0xEE)
     -- nothing is stored with the header
     ∷ trial (runOf (take 7 jumping) .sram) (filledWith 0xEE)
-    ∷ trial (numbersOf (runOf lacking)) ((1 ∷ 1 ∷ 0 ∷ 1 ∷ []) ++ replicate 16 0 ++ (6 ∷ 1 ∷ []))
-    -- serial echoes the byte under no identifier
+    -- "a faulty byte after the first clean one ends the plain list" (02, E2)
+    ∷ trial (numbersOf (runOf lacking)) ((1 ∷ 1 ∷ 0 ∷ 1 ∷ []) ++ replicate 16 0 ++ (6 ∷ 12 ∷ 1 ∷ 1 ∷ []))
+    -- serial echoes the byte under no identifier, and no faulty one
     ∷ trial (echoesOf (runOf (take 5 lacking))) (nothing ∷ nothing ∷ (0 ∷ 0xFE ∷ []) ∷ nothing ∷ (0 ∷ 0xED ∷ []) ∷ [])
+    ∷ trial (drop 19 (echoesOf (runOf lacking))) ((0 ∷ 0xAA ∷ []) ∷ nothing ∷ nothing ∷ nothing ∷ nothing ∷ [])
     ∷ trial (jumpsIn (runOf lacking .calls)) []
+    ∷ trial (plainOf public lacking) (publicPassword ++ shortHeader ++ (0xAA ∷ []))
     ∷ trial (complete public (plainOf public lacking)) false
-    ∷ trial (runOf lacking .session .stage)
-    (Stage.Data Port.Serial (record { start = record { 0 = 0x40000004 }; vle = false; next = 0x40000005; owed = 1 }))
+    ∷ trial (runOf lacking .session) (stoppedWith true)
+    ∷ trial (runOf lacking .sram) (replicate 4 0xEE ++ (0xAA ∷ []) ++ replicate 65531 0xEE)
     ∷ trial (streamOf lacking)
     ((faulty 0xFE ∷ clean 0xFE ∷ [])
     ++ opened
-    ++ (clean 0xAA ∷ faulty 0xBB ∷ []))
-    ∷ trial (jumpsIn (runOf finished .calls)) (Outcome.Jumps (record { start = record { 0 = 0x40000004 }; vle = false }) ∷ [])
+    ++ (clean 0xAA ∷ faulty 0xBB ∷ clean 0xBB ∷ faulty 0xCC ∷ []))
+    ∷ trial (jumpsIn (runOf finished .calls)) (Outcome.Jumps (record { start = record { 0 = 0x40000004 }; vle = true }) ∷ [])
+    ∷ trial (plainOf public finished) (publicPassword ++ shortHeader ++ (0xAA ∷ 0xBB ∷ []))
     ∷ trial (runOf finished .sram) (replicate 4 0xEE ++ (0xAA ∷ 0xBB ∷ []) ++ replicate 65530 0xEE)
+    -- in the password, and before and in the header, of which nothing is accepted yet
+    ∷ trial (numbersOf (runOf (cutBehind 7))) (replicate 7 0 ++ (12 ∷ 1 ∷ []))
+    ∷ trial (runOf (cutBehind 7) .session) (stoppedWith false)
+    ∷ trial (numbersOf (runOf (cutBehind 8))) (replicate 8 0 ++ (12 ∷ 1 ∷ []))
+    ∷ trial (runOf (cutBehind 15) .session) (stoppedWith false)
     ∷ trial (numbersOf (runOf silent)) (1 ∷ 1 ∷ 1 ∷ [])
     ∷ trial (streamOf silent) []
     ∷ trial (pickedPort silent) none

@@ -123,8 +123,8 @@ takenAs role port session sram bytes =
 -- a faulty byte behind the opening "shall stop the session, no echo" (02, E2); a header that was accepted stays so
 abbrev pub faulted : Session → StepResult
 faulted session =
-    let next : Transition = stops session (Refusal.FaultyByte (acceptedVle (session .stage))) in
-    nothingTaken (next .outcome) (next .session)
+    let refusal : Refusal = Refusal.FaultyByte (acceptedVle (session .stage)) in
+    nothingTaken (Outcome.Stops refusal) (stops session refusal .session)
 
 -- the session's rules: "Ignored items get no echo."
 abbrev pub ruled : Reaction → Session → List ℕ → Item → Result

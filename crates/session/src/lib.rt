@@ -211,13 +211,10 @@ fn stop_at_fault(session: Session) -> StepResult
     ensures { λ r. ⌜ r ≡ faulted session ⌝ }
 {
     let stage = session.stage;
-    let next = stop(
-        session,
-        Refusal::FaultyByte(session_state::accepted_vle(stage)),
-    );
-    let outcome = next.outcome;
+    let refusal = Refusal::FaultyByte(session_state::accepted_vle(stage));
+    let next = stop(session, refusal);
     let stopped = next.session;
-    session_answers::take_nothing(stopped, outcome)
+    session_answers::take_nothing(stopped, Outcome::Stops(refusal))
 }
 
 // One item.
