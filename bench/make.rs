@@ -83,15 +83,15 @@ impl Capture {
         }
     }
 
-    /// Now and then an item that is ignored: a faulty byte, or one of the other port.
+    /// Now and then an item that is ignored: one of the other port, which a faulty byte is to CAN.
     fn other_item(&mut self, can: bool) {
         if !self.mixed {
             return;
         }
         match self.below(16) {
-            0 => self.record(3, &[0xA5]),
+            0 if can => self.record(3, &[0xA5]),
             1 if can => self.record(2, &[0xA5]),
-            1 => self.frame(0x013, &[0xA5; 5]),
+            0 | 1 => self.frame(0x013, &[0xA5; 5]),
             _ => {}
         }
     }

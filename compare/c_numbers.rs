@@ -17,6 +17,10 @@ pub const ITEM: usize = 11;
 
 pub type Row = [u32; ANSWER];
 
+/// The numbers that stop a session, the last one for a faulty byte.
+pub const REFUSALS: [u8; 4] = [2, 3, 4, FAULTY];
+pub const FAULTY: u8 = 12;
+
 // Where the numbers of a session stand, after the 8 bytes of the password selected.
 pub const STAGE: usize = 8;
 pub const PORT: usize = 9;
@@ -87,8 +91,9 @@ pub fn entered_of(number: u32) -> Option<Entered> {
 
 /// A session of the reference with the header's 8 places for held bytes. While a
 /// password or header fills up, the places behind keep what they had; an item that is
-/// taken and leaves no byte held leaves all of them 0. Of data the header does not say
-/// this: places that are not 0 there are in no session but one that a caller made up.
+/// taken and leaves no byte held leaves all of them 0, and so does one that stops the
+/// session. Of data the header does not say this: places that are not 0 there are in no
+/// session but one that a caller made up.
 #[derive(Clone)]
 pub struct Head {
     pub session: Session,
@@ -124,9 +129,13 @@ impl Head {
                 next: numbers[NEXT],
                 owed: numbers[OWED],
             },
-            4 => Stage::Stopped {
-                number: (2..=4).find(|&number| numbers[REFUSAL] == u32::from(number))?,
-            },
+            4 => {
+                let number = REFUSALS
+                    .into_iter()
+                    .find(|&number| numbers[REFUSAL] == u32::from(number))?;
+                let vle = number == FAULTY && vle;
+                Stage::Stopped { number, vle }
+            }
             5 => Stage::Jumped { start, vle },
             _ => return None,
         };
@@ -176,7 +185,8 @@ impl Head {
                 numbers[OWED] = owed;
                 3
             }
-            Stage::Stopped { number } => {
+            Stage::Stopped { number, vle } => {
+                numbers[VLE] = vle.into();
                 numbers[REFUSAL] = number.into();
                 4
             }
@@ -191,7 +201,7 @@ impl Head {
 
     pub fn item(&mut self, sram: &mut [u8], item: &Item) -> Answer {
         let answer = self.session.item(sram, item);
-        if answer.echo.is_some() {
+        if moves(answer.number) {
             match &self.session.held[..] {
                 [] => self.places = [0; 8],
                 held => self.places[..held.len()].copy_from_slice(held),
@@ -199,6 +209,11 @@ impl Head {
         }
         answer
     }
+}
+
+/// Whether the answer with this number moves the session.
+pub fn moves(number: u8) -> bool {
+    matches!(number, 0 | 2..=5 | FAULTY)
 }
 
 /// In the order of boot_assist_answer. Places behind the echo are 0.

@@ -2,7 +2,8 @@
 //! headers, items, lists of items, and the numbers of sessions.
 
 use crate::c_numbers::{
-    Head, ANSWER, COUNT, ENTERED, HELD, NEXT, OWED, PORT, REFUSAL, SESSION, STAGE, START, VLE,
+    moves, Head, ANSWER, COUNT, ENTERED, FAULTY, HELD, NEXT, OWED, PORT, REFUSAL, REFUSALS,
+    SESSION, STAGE, START, VLE,
 };
 use crate::harness::{Lengths, Parts, ANSWER_MAX, BASE, RIGHT, SESSION_MAX, SRAM, SRAM_MAX};
 use crate::random::Random;
@@ -40,8 +41,8 @@ const IDENTIFIERS: [u32; 24] = [
 
 /// Numbers that are put where another belongs.
 #[rustfmt::skip]
-const NUMBERS: [u32; 24] = [
-    0, 1, 2, 3, 4, 5, 6, 7, 8, 9, 0xFF, 0x100, 0x101, 0x102, 0x103, SRAM as u32, BASE - 1,
+const NUMBERS: [u32; 25] = [
+    0, 1, 2, 3, 4, 5, 6, 7, 8, 9, 12, 0xFF, 0x100, 0x101, 0x102, 0x103, SRAM as u32, BASE - 1,
     BASE, BASE + 1, BASE + 4, END - 1, END, 0x8000_0000, 0xFFFF_FFFF,
 ];
 
@@ -299,7 +300,7 @@ impl Maker {
     /// A list of at most `limit` items, meant mostly as a load of at most `most` bytes.
     pub fn list_of(&mut self, selected: [u8; 8], most: usize, limit: usize) -> Vec<Item> {
         let plan = self.plan(selected, most);
-        // How often another item comes, and whether only where it is not taken.
+        // How often another item comes, and whether only where it moves nothing.
         let seldom = self.random.pick(&[1_000, 1_000, 12, 12, 6, 6, 3, 3, 2, 1]);
         let tame = !self.random.chance(4);
         // Another load at the same time, on the other port.
@@ -324,8 +325,8 @@ impl Maker {
                 }
                 _ if self.random.chance(seldom) => {
                     let item = self.other_item(&plan, &head.session);
-                    let taken = head.clone().item(&mut self.scratch, &item).echo.is_some();
-                    if tame && taken {
+                    let answer = head.clone().item(&mut self.scratch, &item);
+                    if tame && moves(answer.number) {
                         continue;
                     }
                     item
@@ -429,7 +430,11 @@ impl Maker {
                     _ => to_end.min(1 + self.random.below(12) as u32),
                 };
             }
-            4 => numbers[REFUSAL] = self.random.pick(&[2, 3, 4]),
+            4 => {
+                let refusal = self.random.pick(&REFUSALS);
+                numbers[VLE] = u32::from(refusal == FAULTY) & vle;
+                numbers[REFUSAL] = refusal.into();
+            }
             5 => {
                 numbers[START] = match self.random.below(3) {
                     0 => self.random.number() as u32,
@@ -464,7 +469,7 @@ impl Maker {
             6 => (PORT, random.pick(&[0, 1, 2, 0x100, 0x101])),
             7 | 8 => (COUNT, random.pick(&[0, 1, 7, 8, 9, 0xFF, 0x100, 0x101])),
             9 => (VLE, random.pick(&[0, 1, 2, 0x100, 0x101])),
-            10 => (REFUSAL, random.below(7) as u32),
+            10 => (REFUSAL, random.below(14) as u32),
             // With the last two, next and owed add up to 2^32 or just below it.
             11 => (OWED, random.pick(&[0, over, over, !next, next.wrapping_neg()])),
             12 => (NEXT, random.pick(&[BASE - 1, END - 1, END, END + 1, next.wrapping_add(1)])),

@@ -3,14 +3,14 @@
 //! rows of the session that it left.
 
 use crate::c_numbers::{
-    answer_name, entered_of, only, port_number, row, session_name, table, table_name, Head, Row,
-    ANSWER, ENTERED, JUMP, JUMP_VLE, PORT, SESSION, STAGE, TABLE, VLE,
+    answer_name, entered_of, moves, only, port_number, row, session_name, table, table_name, Head,
+    Row, ANSWER, ENTERED, JUMP, JUMP_VLE, SESSION, STAGE, TABLE, VLE,
 };
 use crate::differences::{hex, line, number_lines};
 use crate::random::Random;
 use crate::{foreign, Among, Tally};
 use reference::mmu::{self, session_rows};
-use reference::session::{load, picked, plain, stream, Answer, Item, Port};
+use reference::session::{load, picked, plain, stream, Answer, Item, Port, Session, Stage};
 use std::array;
 use std::fmt;
 use std::slice;
@@ -25,11 +25,12 @@ pub const ANSWER_MAX: usize = ANSWER + 8;
 pub const ROWS_MAX: usize = TABLE + 24;
 const BEYOND: usize = 8;
 
-const DIGITS: [&str; 10] = ["0", "1", "2", "3", "4", "5", "6", "7", "8", "9"];
-const SERIAL_DIGITS: [&str; 9] = ["0", "1", "2", "3", "4", "5", "7", "8", "9"];
+/// The numbers of an item: the form of a byte is never refused, and no frame is faulty.
+const CAN_NUMBERS: [&str; 10] = ["0", "1", "2", "3", "4", "5", "6", "7", "8", "9"];
+const SERIAL_NUMBERS: [&str; 10] = ["0", "1", "2", "3", "4", "5", "7", "8", "9", "12"];
 /// The ports' lines of the tally.
 const PORTS: [&str; 2] = ["CAN", "serial"];
-const STAGES: [&str; 8] = [
+pub const STAGES: [&str; 8] = [
     "waiting",
     "password",
     "header CAN",
@@ -49,7 +50,7 @@ const ROWS_IN: [[&str; 2]; 6] = [
     ["password"; 2],
     ["header"; 2],
     ["data VLE 0", "data VLE 1"],
-    ["stopped"; 2],
+    ["stopped VLE 0", "stopped VLE 1"],
     ["jumped VLE 0", "jumped VLE 1"],
 ];
 const JUMPS: [[&str; 2]; 2] = [["CAN VLE 0", "CAN VLE 1"], ["serial VLE 0", "serial VLE 1"]];
@@ -210,10 +211,10 @@ impl<'a> Harness<'a> {
         rows_in.dedup();
         for (thing, among, values) in [
             ("session", Among::All, &["0", "9"][..]),
-            ("CAN", Among::Random, &DIGITS),
-            // The form of a byte is never refused.
-            ("serial", Among::Random, &SERIAL_DIGITS),
+            ("CAN", Among::Random, &CAN_NUMBERS),
+            ("serial", Among::Random, &SERIAL_NUMBERS),
             ("stage", Among::Random, &STAGES),
+            ("faulty in", Among::Random, &STAGES),
             ("jump", Among::Random, JUMPS.as_flattened()),
             ("8 for", Among::Random, &CAUSES),
             ("list", Among::Random, &["0", "6", "7", "8"]),
@@ -298,7 +299,7 @@ impl<'a> Harness<'a> {
                 hex(password)
             )
         })?;
-        self.count("session", DIGITS[usize::from(number)]);
+        self.count("session", &number.to_string());
         if number == 0 {
             self.trail.push(Step::Session(self.numbers()));
             self.rows_at_hand()?;
@@ -316,7 +317,7 @@ impl<'a> Harness<'a> {
         let number = hand_in(&mut self.ours, item, mark, lengths, &mut answer);
         let due = self.due(item, lengths);
         let row = row(&due);
-        if due.number < 6 {
+        if answered(due.number) {
             expected[..ANSWER].copy_from_slice(&row);
         }
         self.compare(
@@ -333,7 +334,7 @@ impl<'a> Harness<'a> {
             },
         )?;
         self.count_call(item, &before[..lengths.session], &due);
-        if due.number < 7 {
+        if answered(due.number) || due.number == 6 {
             self.trail.push(Step::Item(item.clone()));
         }
         let rows_len = self.rows_len();
@@ -356,7 +357,7 @@ impl<'a> Harness<'a> {
         };
         if lengths.answer != ANSWER {
             return match head.item(&mut sram.to_vec(), item).number {
-                number @ 6.. => refused(number),
+                number if !answered(number) => refused(number),
                 _ => refused(9),
             };
         }
@@ -450,7 +451,7 @@ impl<'a> Harness<'a> {
         let mut answer = [0; ANSWER];
         let mark = self.mark(item);
         let number = hand_in(&mut self.alone, item, mark, RIGHT, &mut answer);
-        if number < 6 {
+        if answered(number) {
             answer
         } else {
             only(number)
@@ -506,7 +507,7 @@ impl<'a> Harness<'a> {
             let session = session_line(&before[..lengths.session]);
             format!("{parts}{session}{lengths}")
         })?;
-        self.count("list", DIGITS[usize::from(number)]);
+        self.count("list", &number.to_string());
         let rows_len = self.rows_len();
         self.rows(lengths.session, rows_len)?;
         Ok(true)
@@ -631,19 +632,16 @@ impl<'a> Harness<'a> {
             Item::Frame { .. } => port_number(Port::Can),
             Item::Byte { .. } => port_number(Port::Serial),
         };
-        self.count(PORTS[port], DIGITS[usize::from(answer.number)]);
+        self.count(PORTS[port], &answer.number.to_string());
         match answer.number {
             7 => {}
             8 => self.count("8 for", cause(before)),
             _ => {
-                let serial = before[PORT] as usize;
-                let stage = match before[STAGE] {
-                    2 => 2 + serial,
-                    3 => 4 + serial,
-                    stage @ (4 | 5) => 2 + stage as usize,
-                    stage => stage as usize,
-                };
-                self.count("stage", STAGES[stage]);
+                let stage = stage_name(&Head::of(before).unwrap().session);
+                self.count("stage", stage);
+                if matches!(item, Item::Byte { faulty: true, .. }) {
+                    self.count("faulty in", stage);
+                }
             }
         }
         if let Some((_, vle)) = answer.jump {
@@ -658,6 +656,27 @@ pub fn kind_and_bytes(item: &Item) -> (u8, &[u8]) {
         Item::Frame { data, .. } => (1, data),
         Item::Byte { value, faulty } => (if *faulty { 3 } else { 2 }, slice::from_ref(value)),
     }
+}
+
+/// One of STAGES.
+pub fn stage_name(session: &Session) -> &'static str {
+    let by = |port, [can, serial]: [usize; 2]| match port {
+        Port::Can => STAGES[can],
+        Port::Serial => STAGES[serial],
+    };
+    match session.stage {
+        Stage::Waiting => STAGES[0],
+        Stage::Password { .. } => STAGES[1],
+        Stage::Header { port } => by(port, [2, 3]),
+        Stage::Data { port, .. } => by(port, [4, 5]),
+        Stage::Stopped { .. } => STAGES[6],
+        Stage::Jumped { .. } => STAGES[7],
+    }
+}
+
+/// Whether a call with this number writes an answer.
+fn answered(number: u8) -> bool {
+    number == 1 || moves(number)
 }
 
 /// 01, number 6.

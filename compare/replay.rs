@@ -3,13 +3,17 @@
 
 use crate::capture::{starts, Reader};
 use crate::differences::hex;
-use crate::generators::Maker;
+use crate::generators::{clean, faulty, frame, Maker, PUBLIC};
+use crate::harness::{stage_name, SRAM, STAGES};
 use crate::random::Random;
 use crate::replay_captures::{random_capture, WINDOW};
 use crate::replay_program::{Feeding, Program};
 use crate::vectors;
 use crate::{Among, Tally};
+use reference::boot::Entered;
+use reference::capture::{read, Read, CAN, CLEAN, FAULTY};
 use reference::replay::replay;
+use reference::session::Session;
 use std::thread;
 
 /// How many programs run at a time, and how many captures are made at a time.
@@ -19,8 +23,8 @@ const BATCH: u64 = 512;
 /// How many lines of each text a report has at most.
 const SHOWN: usize = 40;
 
-const ANSWERS: [&str; 7] = ["0", "1", "2", "3", "4", "5", "10"];
-const LAST_LINES: [&str; 8] = [
+const ANSWERS: [&str; 8] = ["0", "1", "2", "3", "4", "5", "10", "12"];
+const LAST_LINES: [&str; 9] = [
     "waiting",
     "password",
     "header",
@@ -28,6 +32,7 @@ const LAST_LINES: [&str; 8] = [
     "stopped 2",
     "stopped 3",
     "stopped 4",
+    "stopped 12",
     "jump",
 ];
 const CAUSES: [&str; 8] = [
@@ -53,6 +58,7 @@ pub fn run(
         ("handed in", &["whole", "in pieces", "over a window"][..]),
         ("answer", &ANSWERS),
         ("last line", &LAST_LINES),
+        ("faulty read", &STAGES),
         ("10 for", &CAUSES),
     ] {
         tally.expect(thing, Among::Random, values);
@@ -156,8 +162,35 @@ impl Run<'_> {
                 }
             }
         }
+        for stage in faulty_in(&case.capture) {
+            count("faulty read", stage);
+        }
         self.tally.inputs += 1;
     }
+}
+
+/// The stages in which a capture's faulty bytes come.
+fn faulty_in(capture: &[u8]) -> Vec<&'static str> {
+    let fresh = || Session::fresh(Entered::Asked, PUBLIC);
+    let (mut session, mut sram) = (fresh(), vec![0; SRAM]);
+    let (mut stages, mut at) = (Vec::new(), 0);
+    while let Read::Record { kind, body, next } = read(capture, at) {
+        let item = match (kind, body) {
+            (CAN, [high, low, data @ ..]) => frame(u16::from_be_bytes([*high, *low]).into(), data),
+            (CLEAN, [value]) => clean(*value),
+            (FAULTY, [value]) => {
+                stages.push(stage_name(&session));
+                faulty(*value)
+            }
+            _ => {
+                (session, at) = (fresh(), next);
+                continue;
+            }
+        };
+        session.item(&mut sram, &item);
+        at = next;
+    }
+    stages
 }
 
 /// What is wrong with a capture's bad record.

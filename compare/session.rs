@@ -76,6 +76,8 @@ fn samples() -> Vec<[u32; SESSION]> {
         sample(4, 0, 0, [0, 0, 0, 0, 2]),
         sample(4, 0, 0, [0, 0, 0, 0, 3]),
         sample(4, 0, 0, [0, 0, 0, 0, 4]),
+        sample(4, 0, 0, [0, 0, 0, 0, 12]),
+        sample(4, 0, 0, [0, 1, 0, 0, 12]),
         sample(5, 0, 0, [BASE + 8, 1, 0, 0, 0]),
     ];
     for port in [0, 1] {
@@ -212,7 +214,7 @@ impl Run<'_> {
                 }
             }
             for at in [STAGE, PORT, COUNT, START, VLE, NEXT, OWED, REFUSAL, ENTERED] {
-                for number in [0, 1, 2, 3, 4, 5, 6, 0x100, 0x101, 0x102, BASE, END, !0] {
+                for number in [0, 1, 2, 3, 4, 5, 6, 12, 0x100, 0x101, 0x102, BASE, END, !0] {
                     let mut numbers = numbers;
                     numbers[at] = number;
                     self.both_ports(&numbers)?;

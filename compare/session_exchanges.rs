@@ -1,6 +1,6 @@
 //! Exchanges that the papers print, with their numbers written out: document 01, "Trial
-//! exchanges", "Slips we have seen" and the capture's items; document 002, Tables 7
-//! to 14.
+//! exchanges", "Slips we have seen" and the capture's items; document 02, E2; document 002,
+//! Tables 7 to 14.
 
 use crate::c_numbers::{
     answer_name, session_name, Row, ANSWER, ECHO, ECHO_IDENTIFIER, ECHO_LENGTH, JUMP, JUMP_VLE,
@@ -43,6 +43,7 @@ fn echoed(number: u32, identifier: u32, data: &[u8]) -> Row {
 }
 
 const IGNORED: Row = [1, 0, 0, 0, 0, 0, 0, 0, 0, 0, 0, 0, 0];
+const FAULTY: Row = [12, 0, 0, 0, 0, 0, 0, 0, 0, 0, 0, 0, 0];
 
 /// `data` by one CAN frame or by clean serial bytes; the last item gets `number`.
 fn sent(port: u32, identifier: u32, data: &[u8], number: u32) -> Vec<Turn> {
@@ -214,6 +215,8 @@ pub fn trials() -> Vec<Exchange> {
     let after = session(PUBLIC, 2, CAN, [0; 5]);
     trials.push(exchange("faulty first", PUBLIC, &turns, after));
 
+    trials.extend(faults());
+
     // The items of the capture.
     let turns = [
         sent(SERIAL, 0, &[0xFE], 0),
@@ -225,6 +228,43 @@ pub fn trials() -> Vec<Exchange> {
     after[11] = 0xFE;
     trials.push(exchange("the capture", PUBLIC, &turns, after));
     trials
+}
+
+/// 02, E2: a load of 2 bytes, with VLE and without, in which a faulty byte comes behind each
+/// number of its items, and another item behind that. By CAN it is ignored wherever it
+/// comes; by serial before the opening and behind the jump.
+fn faults() -> Vec<Exchange> {
+    let mut faults = Vec::new();
+    for (port, vle) in [(CAN, 0), (CAN, 1), (SERIAL, 0), (SERIAL, 1)] {
+        let mut turns = [
+            sent(port, 0x011, &PUBLIC, 0),
+            sent(port, 0x012, &header(0x4000_0004, vle << 31 | 2), 0),
+            sent(port, 0x013, &[7, 8], 5),
+        ]
+        .concat();
+        let (_, last) = turns.last_mut().unwrap();
+        last[JUMP] = 0x4000_0004;
+        last[JUMP_VLE] = vle;
+        let jumped = session(PUBLIC, 5, 0, [0x4000_0004, vle, 0, 0, 0]);
+        for count in 0..=turns.len() {
+            let (before, behind) = turns.split_at(count);
+            let stops = port == SERIAL && (1..turns.len()).contains(&count);
+            let (answers, after) = if stops {
+                let kept = if count < 16 { 0 } else { vle };
+                let ignored = behind.iter().map(|(item, _)| (item.clone(), IGNORED));
+                let stopped = session(PUBLIC, 4, 0, [0, kept, 0, 0, 12]);
+                (
+                    [vec![(faulty(0xFE), FAULTY)], ignored.collect()].concat(),
+                    stopped,
+                )
+            } else {
+                ([&[(faulty(0xFE), IGNORED)], behind].concat(), jumped)
+            };
+            let turns = [before, &answers, &[(faulty(0xFE), IGNORED)]].concat();
+            faults.push(exchange("a faulty byte", PUBLIC, &turns, after));
+        }
+    }
+    faults
 }
 
 /// 002: CAN without VLE (Tables 7 to 12) and with it (Table 14), and serial (Table 13).

@@ -30,6 +30,12 @@ static uint8_t hand_in(uint32_t *session, int port, const struct line_item *item
                             answer, BOOT_ASSIST_ANSWER_LENGTH);
 }
 
+/* Whether an item with this number has stopped the session. */
+static int has_stopped(uint8_t number)
+{
+    return number == 2 || number == 3 || number == 4 || number == 12;
+}
+
 /* Takes items and sends their echoes until the session stops or jumps, or the line ends. Returns the last number. */
 static uint8_t serve(int fd, int port, uint32_t *answer, size_t *items)
 {
@@ -37,7 +43,7 @@ static uint8_t serve(int fd, int port, uint32_t *answer, size_t *items)
     struct line_item item;
     uint8_t number = 0;
     boot_assist_session(BOOT_ASSIST_MODE_SERIAL_DIRECTLY, password, 8, session, BOOT_ASSIST_SESSION_LENGTH);
-    while (number < 2 || number > 5) {
+    while (!has_stopped(number) && number != 5) {
         int got = line_get(fd, port, &item, SILENCE);
         if (got == LINE_SILENT)
             fprintf(stderr, "head: nothing came for %d seconds\n", SILENCE / 1000);
@@ -77,7 +83,7 @@ int main(int argc, char **argv)
     size_t items = 0;
     uint8_t number = serve((int)fd, port, answer, &items);
     if (number != 5) {
-        if (number >= 2 && number <= 4)
+        if (has_stopped(number))
             printf("head stopped with number %u after %zu items\n", number, items);
         else
             printf("head did not jump, %zu items\n", items);

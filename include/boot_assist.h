@@ -3,8 +3,8 @@
  * x86-64 Linux.
  *
  * Every call answers for every value of its arguments: it returns a number of the table below, and a call that
- * returns 6 or above has written nothing (but for boot_assist_begin, which then leaves no load going where the
- * sender has its numbers). The caller's part is what C cannot say: each pointer is valid for its length and not
+ * returns 6, 7, 8, 9, 10 or 11 has written nothing (but for boot_assist_begin, which then leaves no load going where
+ * the sender has its numbers). The caller's part is what C cannot say: each pointer is valid for its length and not
  * null, also where the length is 0, and no output overlaps another argument. NAME_len is how many elements NAME
  * has: bytes of a uint8_t list, numbers (not bytes) of a uint32_t or size_t list.
  *
@@ -25,6 +25,7 @@
  *       session a mode that is not serial; a password that is not 8 bytes
  *   10  the capture's record is not whole or breaks its rules, or the starting place is past the end
  *   11  rows of external boot were asked for, of a choice or of a sound session, whatever the output's length
+ *   12  the byte is faulty, and the session has opened serial and not ended: the session is stopped, with no echo
  */
 #ifndef BOOT_ASSIST_H
 #define BOOT_ASSIST_H
@@ -118,10 +119,12 @@ enum boot_assist_stage {
 enum boot_assist_port { BOOT_ASSIST_PORT_CAN = 0, BOOT_ASSIST_PORT_SERIAL = 1 };
 
 /* The numbers of a session. A number that the stage does not have is 0: the port is that of the password (always
- * serial), header and data stages; start and VLE are those of the data and jumped stages; the next address and
- * the bytes owed are those of the data stage; the refusal is that of the stopped stage. The places of HELD behind
- * COUNT may hold any byte; they keep it while more bytes are gathered, and after an item that is taken and leaves
- * none held all are 0. The password selected and ENTERED are those of every stage, and no item changes them. */
+ * serial), header and data stages; the start is that of the data and jumped stages, and VLE too; where the refusal
+ * is 12, VLE is that of the header which was accepted before it, and 0 if none was; the next address and the bytes
+ * owed are those of the data stage; the refusal is that of the stopped stage. The places of HELD behind COUNT may
+ * hold any byte; they keep it while more bytes are gathered, and after an item that is taken and leaves none held,
+ * or that stops the session, all are 0. The password selected and ENTERED are those of every stage, and no item
+ * changes them. */
 enum boot_assist_session_number {
     BOOT_ASSIST_SESSION_SELECTED = 0, /* 8 bytes: the password selected by the boot choice */
     BOOT_ASSIST_SESSION_STAGE = 8,    /* a boot_assist_stage */
@@ -132,7 +135,7 @@ enum boot_assist_session_number {
     BOOT_ASSIST_SESSION_VLE = 20,     /* 1: VLE code */
     BOOT_ASSIST_SESSION_NEXT = 21,    /* the address of the next byte */
     BOOT_ASSIST_SESSION_OWED = 22,    /* how many bytes are still owed */
-    BOOT_ASSIST_SESSION_REFUSAL = 23, /* the number that stopped the session: 2, 3 or 4 */
+    BOOT_ASSIST_SESSION_REFUSAL = 23, /* the number that stopped the session: 2, 3, 4 or 12 */
     BOOT_ASSIST_SESSION_ENTERED = 24, /* how serial boot was entered: the boot_assist_mode of its choice, 2, 3 or 4 */
     BOOT_ASSIST_SESSION_LENGTH = 25
 };
@@ -151,8 +154,9 @@ uint8_t boot_assist_session(uint8_t mode,
                             uint32_t *session, size_t session_len);
 
 /*
- * The MMU rows of a session. VLE on entries 1 to 3 is that of the header which the session has accepted: of its load in
- * the data stage, of its jump in the jumped stage. In every other stage it has accepted none, and VLE is clear.
+ * The MMU rows of a session. VLE on entries 1 to 3 is that of the header which the session has accepted: the
+ * session's VLE in the data and jumped stages, and in the stopped stage where 12 stopped it. Otherwise it has
+ * accepted none, and VLE is clear.
  *
  * session       BOOT_ASSIST_SESSION_LENGTH numbers, as the last call left them; only read
  * rows          as for a boot choice, written
@@ -185,7 +189,8 @@ enum boot_assist_answer {
  * faulty        0: the byte is clean, any other number: it is faulty
  * answer        BOOT_ASSIST_ANSWER_LENGTH numbers, written
  *
- * Returns the number of the answer, 0 to 5; or 7, then 8, then 6, then 9 for an answer of another length.
+ * Returns the number of the answer, 0 to 5 or, of a byte, 12; or 7, then 8, then 6, then 9 for an answer of another
+ * length.
  */
 uint8_t boot_assist_frame(uint32_t *session, size_t session_len,
                           uint8_t *sram, size_t sram_len,
