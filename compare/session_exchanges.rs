@@ -215,7 +215,7 @@ pub fn trials() -> Vec<Exchange> {
     let after = session(PUBLIC, 2, CAN, [0; 5]);
     trials.push(exchange("faulty first", PUBLIC, &turns, after));
 
-    trials.extend(faults());
+    trials.extend(faulty_bytes());
 
     // The items of the capture.
     let turns = [
@@ -233,8 +233,8 @@ pub fn trials() -> Vec<Exchange> {
 /// 02, E2: a load of 2 bytes, with VLE and without, in which a faulty byte comes behind each
 /// number of its items, and another item behind that. By CAN it is ignored wherever it
 /// comes; by serial before the opening and behind the jump.
-fn faults() -> Vec<Exchange> {
-    let mut faults = Vec::new();
+fn faulty_bytes() -> Vec<Exchange> {
+    let mut exchanges = Vec::new();
     for (port, vle) in [(CAN, 0), (CAN, 1), (SERIAL, 0), (SERIAL, 1)] {
         let mut turns = [
             sent(port, 0x011, &PUBLIC, 0),
@@ -261,10 +261,10 @@ fn faults() -> Vec<Exchange> {
                 ([&[(faulty(0xFE), IGNORED)], behind].concat(), jumped)
             };
             let turns = [before, &answers, &[(faulty(0xFE), IGNORED)]].concat();
-            faults.push(exchange("a faulty byte", PUBLIC, &turns, after));
+            exchanges.push(exchange("a faulty byte", PUBLIC, &turns, after));
         }
     }
-    faults
+    exchanges
 }
 
 /// 002: CAN without VLE (Tables 7 to 12) and with it (Table 14), and serial (Table 13).

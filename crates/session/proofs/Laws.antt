@@ -36,7 +36,7 @@ use Rattle.session_answers.specs.Answers.{resultOf, precheck, notTaken, unchang
 use Rattle.session_answers.proofs.Laws.{Accepted, precheck-passed}
 use Rattle.session.specs.declared.Transition.{Transition}
 use Rattle.session.specs.Room.{Room}
-use Rattle.session.specs.Rules.{enters, received, checked, begun, loaded, loadFrom, advanced, jumpOf, passwordReceived, headerReceived, transition, sramAfter, takenAs, faulted, stepPrechecked, step, stops, holds}
+use Rattle.session.specs.Rules.{enters, received, checked, begun, loaded, loadFrom, advanced, jumpOf, passwordReceived, headerReceived, transition, sramAfter, takenAs, stoppedByFaultyByte, stepPrechecked, step, stops, holds}
 
 -- Bytes that are gathered until there are 8: some come, they have their place, and by CAN all come at once.
 pub record Gathered (port : Port) (session : Session) (count : ℕ) : Type 0 where
@@ -139,7 +139,7 @@ module _ (session : Session) (sram : List ℕ) (item : Item) (ok : Accepted sess
   unfolding step precheck
   step-takes role port e = rw (ok .right, ok .fine, reacted session item (ok .fine) (Reaction.Takes role port) e .formed, e)
 
-  pub step-stops : reaction (session .stage) item ≡ Reaction.Stops → step session sram item ≡ resultOf (faulted session) sram
+  pub step-stops : reaction (session .stage) item ≡ Reaction.Stops → step session sram item ≡ resultOf (stoppedByFaultyByte session) sram
   unfolding step precheck
   step-stops e = rw (ok .right, ok .fine, reacted session item (ok .fine) Reaction.Stops e, e)
 
@@ -310,9 +310,9 @@ kept session sram item role port taken ok =
     }
 
 -- nor after one that stopped the session
-pub kept-stopped : (session : Session) (sram : List ℕ) → Accepted session sram → Accepted (faulted session .session) sram
+pub kept-stopped : (session : Session) (sram : List ℕ) → Accepted session sram → Accepted (stoppedByFaultyByte session .session) sram
 kept-stopped session sram ok =
-    record { right = ok .right; fine = sound-again session (faulted session .session) (ok .fine) refl refl }
+    record { right = ok .right; fine = sound-again session (stoppedByFaultyByte session .session) (ok .fine) refl refl }
 
 -- What `session::take` asks for.
 

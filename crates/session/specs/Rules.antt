@@ -121,8 +121,8 @@ takenAs role port session sram bytes =
     (sramAfter role session sram bytes)
 
 -- a faulty byte behind the opening "shall stop the session, no echo" (02, E2); a header that was accepted stays so
-abbrev pub faulted : Session → StepResult
-faulted session =
+abbrev pub stoppedByFaultyByte : Session → StepResult
+stoppedByFaultyByte session =
     let refusal : Refusal = Refusal.FaultyByte (acceptedVle (session .stage)) in
     nothingTaken (Outcome.Stops refusal) (stops session refusal .session)
 
@@ -130,7 +130,7 @@ faulted session =
 abbrev pub ruled : Reaction → Session → List ℕ → Item → Result
 ruled Reaction.Ignores session sram item = unchanged Outcome.Ignored session sram
 ruled (Reaction.Takes role port) session sram item = takenAs role port session sram (bytesOf item)
-ruled Reaction.Stops session sram item = resultOf (faulted session) sram
+ruled Reaction.Stops session sram item = resultOf (stoppedByFaultyByte session) sram
 
 -- "One item: 7, then 8, then 6, then the session's rules."
 abbrev pub stepPrechecked : Prechecked → Session → List ℕ → Item → Result

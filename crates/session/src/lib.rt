@@ -7,7 +7,7 @@ ghost use Rattle.buffers.specs.Write.{over};
 ghost use Rattle.sram.specs.Region.{rightSize};
 ghost use Rattle.session_items.specs.Items.{Item};
 ghost use Rattle.session_answers.specs.Answers.{resultOf};
-ghost use Rattle.session.specs.Rules.{received, enters, stops, checked, begun, loaded, passwordReceived, headerReceived, transition, sramAfter, takenAs, faulted, step};
+ghost use Rattle.session.specs.Rules.{received, enters, stops, checked, begun, loaded, passwordReceived, headerReceived, transition, sramAfter, takenAs, stoppedByFaultyByte, step};
 ghost use Rattle.session.specs.Room.{LoadRoom, Room};
 use header::Validated;
 use session_answers::Answer;
@@ -207,8 +207,8 @@ fn take(role: Role, port: Port, session: Session, sram: &mut [u8], bytes: &[u8])
 }
 
 // A faulty byte behind the opening.
-fn stop_at_fault(session: Session) -> StepResult
-    ensures { λ r. ⌜ r ≡ faulted session ⌝ }
+fn stop_by_faulty_byte(session: Session) -> StepResult
+    ensures { λ r. ⌜ r ≡ stoppedByFaultyByte session ⌝ }
 {
     let stage = session.stage;
     let refusal = Refusal::FaultyByte(session_state::accepted_vle(stage));
@@ -230,6 +230,6 @@ pub fn hand_in(session: Session, sram: &mut [u8], source: Source, bytes: &[u8]) 
     match reaction {
         Reaction::Ignores => session_answers::take_nothing(session, Outcome::Ignored),
         Reaction::Takes(role, port) => take(role, port, session, sram, bytes),
-        Reaction::Stops => stop_at_fault(session),
+        Reaction::Stops => stop_by_faulty_byte(session),
     }
 }

@@ -39,10 +39,10 @@ use Rattle.session_answers.specs.Answers.{outcomeNumber, notTaken}
 use Rattle.session_answers.proofs.Laws.{Accepted}
 use Rattle.session_fresh.specs.Fresh.{freshSession}
 use Rattle.session.specs.declared.Transition.{Transition}
-use Rattle.session.specs.Rules.{enters, stops, received, holds, checked, begun, loaded, loadFrom, jumpOf, advanced, passwordReceived, headerReceived, transition, sramAfter, takenAs, faulted}
+use Rattle.session.specs.Rules.{enters, stops, received, holds, checked, begun, loaded, loadFrom, jumpOf, advanced, passwordReceived, headerReceived, transition, sramAfter, takenAs, stoppedByFaultyByte}
 use Rattle.session.specs.Running.{Call, Run, ran}
 use Rattle.session.proofs.Laws.{Gathered, reacted-in, reacted, step-takes, step-stops, step-ignores, kept, kept-stopped, received-all, received-at-once}
-use Rattle.session_merging.specs.Merging.{pickedPort, only, jumpsIn, cleanToFault, cleanBytes, dataBytes, bytesFromHeader, bytesFromPassword, plainFrom, plainHeader, announced, complete, plainJump}
+use Rattle.session_merging.specs.Merging.{pickedPort, only, jumpsIn, cleanToFaulty, cleanBytes, dataBytes, bytesFromHeader, bytesFromPassword, plainFrom, plainHeader, announced, complete, plainJump}
 use Rattle.session_merging.proofs.Splitting.{short, unpassed, header-bytes, all-there, announced-there}
 
 -- of one call, its outcome if it gets 5
@@ -92,11 +92,11 @@ module _ (configuration : Configuration) where
   -- What the rest of a list still gives to the plain list, by stage; a session that has ended reads no more.
   abbrev rest : Stage → List Item → List ℕ
   rest Stage.Waiting items = plainFrom configuration (pickedPort items) items
-  rest Stage.Password items = cleanToFault items
+  rest Stage.Password items = cleanToFaulty items
   rest (Stage.Header Port.Can) items = bytesFromHeader configuration items
-  rest (Stage.Header Port.Serial) items = cleanToFault items
+  rest (Stage.Header Port.Serial) items = cleanToFaulty items
   rest (Stage.Data Port.Can load) items = dataBytes (load .owed) items
-  rest (Stage.Data Port.Serial load) items = cleanToFault items
+  rest (Stage.Data Port.Serial load) items = cleanToFaulty items
   rest (Stage.Stopped refusal) items = []
   rest (Stage.Jumped jump) items = []
 
@@ -118,33 +118,33 @@ module _ (configuration : Configuration) where
   opening-taken (Item.Of (Source.Serial mark) bytes) items e = rw (e, e)
 
   -- a faulty byte behind it ends the list
-  fault-ends : (item : Item) (items : List Item) → cleanByte item ≡ false → faultyByte item ≡ true → cleanToFault (item ∷ items) ≡ []
-  unfolding cleanToFault
-  fault-ends item items e f = rw (e, f)
+  faulty-ends : (item : Item) (items : List Item) → cleanByte item ≡ false → faultyByte item ≡ true → cleanToFaulty (item ∷ items) ≡ []
+  unfolding cleanToFaulty
+  faulty-ends item items e f = rw (e, f)
 
   -- a header frame, and the bytes of a header, are followed by data
   header-passed : (port : Port) (item : Item) (items : List Item) → countsAs Role.Header port item ≡ false → stopsBy port item ≡ false
       → rest (Stage.Header port) (item ∷ items) ≡ rest (Stage.Header port) items
-  unfolding bytesFromHeader cleanToFault
+  unfolding bytesFromHeader cleanToFaulty
   header-passed Port.Can item items e f = rw e
   header-passed Port.Serial item items e f = rw (e, f)
 
   header-ends : (port : Port) (item : Item) (items : List Item) → countsAs Role.Header port item ≡ false → stopsBy port item ≡ true
       → rest (Stage.Header port) (item ∷ items) ≡ []
   header-ends Port.Can item items e f = absurd (false≢true f)
-  header-ends Port.Serial item items e f = fault-ends item items e f
+  header-ends Port.Serial item items e f = faulty-ends item items e f
 
   header-taken : (port : Port) (item : Item) (items : List Item) → countsAs Role.Header port item ≡ true
       → rest (Stage.Header port) (item ∷ items)
       ≡ bytesOf item ++ rest (Stage.Data port (loadFrom (headerRead configuration (bytesOf item)))) items
-  unfolding bytesFromHeader cleanToFault
+  unfolding bytesFromHeader cleanToFaulty
   header-taken Port.Can item items e = rw e
   header-taken Port.Serial item items e = rw e
 
   data-passed : (port : Port) (load : Load) (item : Item) (items : List Item) → countsAs (Role.Data load) port item ≡ false
       → stopsBy port item ≡ false
       → rest (Stage.Data port load) (item ∷ items) ≡ rest (Stage.Data port load) items
-  unfolding dataBytes cleanToFault
+  unfolding dataBytes cleanToFaulty
   data-passed Port.Can load item items e f = rw e
   data-passed Port.Serial load item items e f = rw (e, f)
 
@@ -152,12 +152,12 @@ module _ (configuration : Configuration) where
       → stopsBy port item ≡ true
       → rest (Stage.Data port load) (item ∷ items) ≡ []
   data-ends Port.Can load item items e f = absurd (false≢true f)
-  data-ends Port.Serial load item items e f = fault-ends item items e f
+  data-ends Port.Serial load item items e f = faulty-ends item items e f
 
   data-taken : (port : Port) (load : Load) (item : Item) (items : List Item) → countsAs (Role.Data load) port item ≡ true
       → rest (Stage.Data port load) (item ∷ items)
       ≡ bytesOf item ++ rest (Stage.Data port (advanced load (length (bytesOf item)))) items
-  unfolding dataBytes cleanToFault
+  unfolding dataBytes cleanToFaulty
   data-taken Port.Can load item items e = rw e
   data-taken Port.Serial load item items e = rw e
 
@@ -482,7 +482,7 @@ module _
 
     call-on : (stage : Stage) → countFits (session .configuration) stage (session .count) ≡ true
         → Before stage session m (item ∷ items) → After stage session m item items (reaction stage item)
-    unfolding reaction transition sramAfter pickedPort cleanToFault
+    unfolding reaction transition sramAfter pickedPort cleanToFaulty
     call-on Stage.Waiting fine s =
         by-hearing (After Stage.Waiting session m item items) Role.Password (portOf item) item Reaction.Ignores
         (λ e. let taken = rw e at (reacted-in session item Stage.Waiting fine) in
@@ -492,7 +492,7 @@ module _
         by-hearing-opened (After Stage.Password session m item items) Role.Password Port.Serial item
         (λ e. let taken = rw e at (reacted-in session item Stage.Password fine) in
         password-taken Stage.Password Port.Serial s refl (s .knows) (rw e) (taken .placed))
-        (λ f e. (refl, cut-off Stage.Password s fine (fault-ends configuration item items e f) refl))
+        (λ f e. (refl, cut-off Stage.Password s fine (faulty-ends configuration item items e f) refl))
         (λ f e. rw (e, f))
     call-on (Stage.Header port) fine s =
         let all = received session (bytesOf item) in
@@ -523,7 +523,7 @@ module _
 
   ended : (stage : Stage) (session : Session) (m : List ℕ) → countFits (session .configuration) stage (session .count) ≡ true
       → Before stage session m [] → Done (due stage) (ran session m [])
-  unfolding ran only pickedPort cleanToFault bytesFromHeader dataBytes
+  unfolding ran only pickedPort cleanToFaulty bytesFromHeader dataBytes
   ended Stage.Waiting session m fine s = unfinished session m (cut-off Stage.Waiting s fine refl refl)
   ended Stage.Password session m fine s = unfinished session m (cut-off Stage.Password s fine refl refl)
   ended (Stage.Header Port.Can) session m fine s = unfinished session m (cut-off (Stage.Header Port.Can) s fine refl refl)
@@ -550,7 +550,7 @@ module _
       record { made = jumps-next _ _ ∙ rw (takes, end .made) (on .made); loads = rw takes (end .loads) }
   run-next session m item items Reaction.Stops e on ok s later =
       let on-stop = stops-on session m items (s .same) (Refusal.FaultyByte (acceptedVle (session .stage))) (on .1) in
-      let end = later (faulted session .session) m (kept-stopped session m ok) (on-stop .onward) in
+      let end = later (stoppedByFaultyByte session .session) m (kept-stopped session m ok) (on-stop .onward) in
       let stopped = step-stops session m item ok e in
       record { made = jumps-next _ _ ∙ rw (stopped, end .made) (on-stop .made ∙ sym (on .0)); loads = rw stopped (end .loads) }
   run-next session m item items Reaction.Ignores e on ok s later =

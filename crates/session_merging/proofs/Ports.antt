@@ -26,7 +26,7 @@ use Rattle.session_answers.specs.Answers.{notTaken, unchanged}
 use Rattle.session_answers.proofs.Laws.{Accepted}
 use Rattle.session_fresh.specs.Fresh.{freshSession}
 use Rattle.session.specs.declared.Transition.{Transition}
-use Rattle.session.specs.Rules.{transition, sramAfter, takenAs, faulted, step, received, enters, stops, holds, passwordReceived, headerReceived, checked, begun, loaded, jumpOf, advanced}
+use Rattle.session.specs.Rules.{transition, sramAfter, takenAs, stoppedByFaultyByte, step, received, enters, stops, holds, passwordReceived, headerReceived, checked, begun, loaded, jumpOf, advanced}
 use Rattle.session.specs.Running.{Call, Run, ran}
 use Rattle.session.proofs.Laws.{Placed, reacted, step-takes, step-stops, step-ignores, kept, kept-stopped, received-at-once}
 use Rattle.session_merging.specs.Merging.{pickedPort, samePort, inStream, only, callOutside}
@@ -121,7 +121,7 @@ module _ (wanted : Item → Bool) (session : Session) (sram : List ℕ) (item : 
       (λ unwanted. absurd (true≢false (sym want ∙ unwanted)), rw (step-takes session sram item ok role port e) rest)
 
   along-stopped : reaction (session .stage) item ≡ Reaction.Stops → wanted item ≡ true
-      → Along wanted (faulted session .session) sram items
+      → Along wanted (stoppedByFaultyByte session .session) sram items
       → Along wanted session sram (item ∷ items)
   along-stopped e want rest =
       (λ unwanted. absurd (true≢false (sym want ∙ unwanted)), rw (step-stops session sram item ok e) rest)
@@ -149,7 +149,7 @@ module _
   along-next t Reaction.Stops e same =
       along-stopped (inStream (some port)) session sram item items ok e
       (rw (reacted session item (ok .fine) Reaction.Stops e, same))
-      (rest (faulted session .session) sram (kept-stopped session sram ok) refl)
+      (rest (stoppedByFaultyByte session .session) sram (kept-stopped session sram ok) refl)
   along-next t Reaction.Ignores e same =
       along-passed (inStream (some port)) session sram item items ok e (rest session sram ok t)
 

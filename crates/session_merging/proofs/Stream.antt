@@ -18,7 +18,7 @@ use Rattle.session_items.specs.Reacting.{eightUnder, dataFitting, cleanByte, fa
 use Rattle.session_items.proofs.Laws.{counted, stopping-own}
 use Rattle.session_answers.proofs.Laws.{Accepted}
 use Rattle.session_fresh.specs.Fresh.{freshSession}
-use Rattle.session_merging.specs.Merging.{pickedPort, inStream, only, cleanToFault, cleanBytes, dataBytes, bytesFromHeader, bytesFromPassword, plainFrom, plainOf, plainHeader, announced, Merging}
+use Rattle.session_merging.specs.Merging.{pickedPort, inStream, only, cleanToFaulty, cleanBytes, dataBytes, bytesFromHeader, bytesFromPassword, plainFrom, plainOf, plainHeader, announced, Merging}
 use Rattle.session_merging.proofs.Splitting.{announced-in-range}
 use Rattle.session_merging.proofs.Ports.{same-own, Along, passed-along, run-alike, passed-at}
 use Rattle.session_merging.proofs.Forward.{forward}
@@ -61,20 +61,20 @@ module _
       item-stream port reads onward test false item items one inside (λ e. absurd (false≢true e)) later same
       (inStream (some port) item) refl
 
-fault-stream : (items : List Item) → cleanToFault (only (inStream (some Port.Serial)) items) ≡ cleanToFault items
-unfolding only cleanToFault
-fault-stream [] = refl
-fault-stream (item ∷ items) =
-    item-stream Port.Serial cleanToFault cleanToFault (cleanByte item) (faultyByte item) item items (λ rest. refl)
-    (counts-inside Role.Password Port.Serial item) (stops-inside Port.Serial item) (fault-stream items) (fault-stream items)
+faulty-stream : (items : List Item) → cleanToFaulty (only (inStream (some Port.Serial)) items) ≡ cleanToFaulty items
+unfolding only cleanToFaulty
+faulty-stream [] = refl
+faulty-stream (item ∷ items) =
+    item-stream Port.Serial cleanToFaulty cleanToFaulty (cleanByte item) (faultyByte item) item items (λ rest. refl)
+    (counts-inside Role.Password Port.Serial item) (stops-inside Port.Serial item) (faulty-stream items) (faulty-stream items)
     (inStream (some Port.Serial) item) refl
 
 clean-stream : (items : List Item) → cleanBytes (only (inStream (some Port.Serial)) items) ≡ cleanBytes items
 unfolding only cleanBytes
 clean-stream [] = refl
 clean-stream (item ∷ items) =
-    endless-stream Port.Serial cleanBytes cleanToFault (cleanByte item) item items (λ rest. refl)
-    (counts-inside Role.Password Port.Serial item) (fault-stream items) (clean-stream items)
+    endless-stream Port.Serial cleanBytes cleanToFaulty (cleanByte item) item items (λ rest. refl)
+    (counts-inside Role.Password Port.Serial item) (faulty-stream items) (clean-stream items)
 
 -- a load of which so many bytes are owed
 abbrev owing : ℕ → Load

@@ -50,14 +50,14 @@ streamOf items = only (inStream (pickedPort items)) items
 
 -- The plain list, of the stream's items alone. "Serial: take the clean bytes in order"; "a faulty byte after the first clean one ends the
 -- plain list" (02, E2).
-unfoldable pub cleanToFault : List Item → List ℕ
-cleanToFault [] = []
-cleanToFault (item ∷ items) =
-    cond (cleanByte item) (bytesOf item ++ cleanToFault items) (cond (faultyByte item) [] (cleanToFault items))
+unfoldable pub cleanToFaulty : List Item → List ℕ
+cleanToFaulty [] = []
+cleanToFaulty (item ∷ items) =
+    cond (cleanByte item) (bytesOf item ++ cleanToFaulty items) (cond (faultyByte item) [] (cleanToFaulty items))
 
 unfoldable pub cleanBytes : List Item → List ℕ
 cleanBytes [] = []
-cleanBytes (item ∷ items) = cond (cleanByte item) (bytesOf item ++ cleanToFault items) (cleanBytes items)
+cleanBytes (item ∷ items) = cond (cleanByte item) (bytesOf item ++ cleanToFaulty items) (cleanBytes items)
 
 -- CAN: "take the first opening frame, the first 0x012 of 8 bytes after it, then each later 0x013 that fits what is owed, which is here the
 -- announced count less the bytes of the 0x013 frames taken before it"

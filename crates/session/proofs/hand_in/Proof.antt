@@ -1,4 +1,4 @@
--- `session::hand_in` meets its contract: what the precheck refuses, an item ignored, the bytes taken, and a fault.
+-- `session::hand_in` meets its contract: what the precheck refuses, an item ignored, the bytes taken, and a faulty byte.
 use mathlib.Core.Path.{sym, _∙_}
 use denote.Ref.{now}
 use Rattle.session_items.specs.Items.{Item}
@@ -59,8 +59,8 @@ take-requires c κs =
 enum-told-3 : tie.Need-enum-told-3
 enum-told-3 c = search needs
 
-stop-at-fault-requires : tie.Need-stop-at-fault-requires
-stop-at-fault-requires c κs = search needs
+stop-by-faulty-byte-requires : tie.Need-stop-by-faulty-byte-requires
+stop-by-faulty-byte-requires c κs = search needs
 
 same-length-2 : tie.Need-same-length-2
 same-length-2 c = search needs
@@ -108,7 +108,7 @@ returns-4 c =
     let passed = faulty .before .before .before in
     let check = passed .before .before in
     rw (
-      c .stop-at-fault .ensures,
+      c .stop-by-faulty-byte .ensures,
       ← check .before .is-formed .ensures,
       ← check .precheck .ensures,
       passed .enum-told .given .1,
@@ -133,7 +133,7 @@ hand-in-spec =
     enum-known-reaction
     take-requires
     enum-told-3
-    stop-at-fault-requires
+    stop-by-faulty-byte-requires
     same-length-2
     returns-2
     same-length-3

@@ -1,7 +1,7 @@
--- `session::stop_at_fault` meets its contract.
+-- `session::stop_by_faulty_byte` meets its contract.
 use borrow.Author.Needs.{needs}
-use Rattle.session.proofs.stop_at_fault.Statement.{statement}
-use Rattle.session.proofs.stop_at_fault.Tie as tie
+use Rattle.session.proofs.stop_by_faulty_byte.Statement.{statement}
+use Rattle.session.proofs.stop_by_faulty_byte.Tie as tie
 
 accepted-vle-requires : tie.Need-accepted-vle-requires
 accepted-vle-requires c κs = search needs
@@ -15,6 +15,6 @@ take-nothing-requires c κs = search needs
 returns : tie.Need-returns
 returns c = rw (c .take-nothing .ensures, c .before .before .stop .ensures, c .before .before .before .accepted-vle .ensures)
 
-pub stop-at-fault-spec : {M : Type 1} → statement M
-stop-at-fault-spec =
+pub stop-by-faulty-byte-spec : {M : Type 1} → statement M
+stop-by-faulty-byte-spec =
     tie.close (tie.spec accepted-vle-requires stop-requires take-nothing-requires returns)
