@@ -19,7 +19,7 @@
 static const uint8_t password[8] = {0xFE, 0xED, 0xFA, 0xCE, 0xCA, 0xFE, 0xBE, 0xEF};
 static uint8_t sram[SRAM_LENGTH];
 
-/* Hands in one item, and returns the number of its answer. An item that is refused has no echo. */
+/* Hands in one item, and returns the number of its answer. A call that is refused writes no answer. */
 static uint8_t hand_in(uint32_t *session, int port, const struct line_item *item, uint32_t *answer)
 {
     memset(answer, 0, BOOT_ASSIST_ANSWER_LENGTH * sizeof *answer);

@@ -28,7 +28,7 @@ static void to_bytes(const uint32_t *numbers, uint8_t bytes[8])
         bytes[i] = (uint8_t)numbers[i];
 }
 
-/* Hands an item to the head, and returns the number of its answer. An item that is refused has no echo. */
+/* Hands an item to the head, and returns the number of its answer. A call that is refused writes no answer. */
 static uint8_t hand_in(uint32_t *session, const uint32_t *item, uint32_t *answer)
 {
     uint8_t bytes[8];

@@ -25,7 +25,8 @@
  *       session a mode that is not serial; a password that is not 8 bytes
  *   10  the capture's record is not whole or breaks its rules, or the starting place is past the end
  *   11  rows of external boot were asked for, of a choice or of a sound session, whatever the output's length
- *   12  the byte is faulty, and the session has opened serial and not ended: the session is stopped, with no echo
+ *   12  the byte is faulty, and the session has opened serial and neither stopped nor jumped: the session is
+ *       stopped, with no echo
  */
 #ifndef BOOT_ASSIST_H
 #define BOOT_ASSIST_H
@@ -119,12 +120,12 @@ enum boot_assist_stage {
 enum boot_assist_port { BOOT_ASSIST_PORT_CAN = 0, BOOT_ASSIST_PORT_SERIAL = 1 };
 
 /* The numbers of a session. A number that the stage does not have is 0: the port is that of the password (always
- * serial), header and data stages; the start is that of the data and jumped stages, and VLE too; where the refusal
- * is 12, VLE is that of the header which was accepted before it, and 0 if none was; the next address and the bytes
- * owed are those of the data stage; the refusal is that of the stopped stage. The places of HELD behind COUNT may
- * hold any byte; they keep it while more bytes are gathered, and after an item that is taken and leaves none held,
- * or that stops the session, all are 0. The password selected and ENTERED are those of every stage, and no item
- * changes them. */
+ * serial), header and data stages; the start is that of the data and jumped stages; VLE is that of the header which
+ * was accepted, and 0 if none was, and the stopped stage has it where the refusal is 12; the next address and the
+ * bytes owed are those of the data stage; the refusal is that of the stopped stage. The places of HELD behind COUNT
+ * may hold any byte; they keep it while more bytes are gathered, and after an item that is taken and leaves none
+ * held, or that stops the session, all are 0. The password selected and ENTERED are those of every stage, and no
+ * item changes them. */
 enum boot_assist_session_number {
     BOOT_ASSIST_SESSION_SELECTED = 0, /* 8 bytes: the password selected by the boot choice */
     BOOT_ASSIST_SESSION_STAGE = 8,    /* a boot_assist_stage */
@@ -154,9 +155,8 @@ uint8_t boot_assist_session(uint8_t mode,
                             uint32_t *session, size_t session_len);
 
 /*
- * The MMU rows of a session. VLE on entries 1 to 3 is that of the header which the session has accepted: the
- * session's VLE in the data and jumped stages, and in the stopped stage where 12 stopped it. Otherwise it has
- * accepted none, and VLE is clear.
+ * The MMU rows of a session. VLE on entries 1 to 3 is that of the header which the session has accepted, the number
+ * BOOT_ASSIST_SESSION_VLE; where it has accepted none, VLE is clear.
  *
  * session       BOOT_ASSIST_SESSION_LENGTH numbers, as the last call left them; only read
  * rows          as for a boot choice, written

@@ -31,7 +31,8 @@ portIn (Stage.Data port load) = portNumber port
 portIn (Stage.Stopped refusal) = 0
 portIn (Stage.Jumped jump) = 0
 
--- start, VLE, next address and bytes owed of a load, and the number that stopped a session, with the VLE of the header that it had accepted
+-- start, VLE, next address and bytes owed of a load, start and VLE of a jump, and the number that stopped a session, with the VLE of the header that it
+-- had accepted
 abbrev pub loadNumbers : Stage → List ℕ
 loadNumbers Stage.Waiting = 0 ∷ 0 ∷ 0 ∷ 0 ∷ 0 ∷ []
 loadNumbers Stage.Password = 0 ∷ 0 ∷ 0 ∷ 0 ∷ 0 ∷ []

@@ -24,12 +24,12 @@ use Rattle.session_items.specs.declared.Role.{Role}
 use Rattle.session_items.specs.declared.Source.{Source}
 use Rattle.session_items.specs.Items.{Item, wellFormed, portOf, bytesOf}
 use Rattle.session_items.specs.Reacting.{eightUnder, dataFitting, cleanByte, faultyByte, countsAs, stopsBy, heardOpened, reaction}
-use Rattle.session_items.proofs.Laws.{by-hearing, by-hearing-opened}
+use Rattle.session_items.proofs.Laws.{by-hearing, by-hearing-opened, clean-or-faulty}
 use Rattle.session_answers.specs.declared.Outcome.{Outcome}
 use Rattle.session_answers.specs.Answers.{outcomeNumber, precheck, underPort, echoUnder, noEcho, echoIdentifier, unchanged}
 use Rattle.session.specs.declared.Transition.{Transition}
 use Rattle.session.specs.Rules.{received, enters, stops, holds, checked, begun, loaded, jumpOf, advanced, passwordReceived, headerReceived, transition, sramAfter, takenAs, step}
-use Rattle.cases_answers.specs.Rows.{wrongPassword, lengthZero, notInSram, lastStored, takenNumber, serialGoing, leftNumber, numberDue, changesNothing, sendsEcho, echoedUnder, stageAfter}
+use Rattle.cases_answers.specs.Rows.{wrongPassword, lengthZero, notInSram, lastStored, takenNumber, serialGoing, bySerial, untakenNumber, numberDue, changesNothing, sendsEcho, echoedUnder, stageAfter}
 
 module _ (session : Session) where
   password-number : (port : Port) (all : List ℕ) (a b : Bool) → eqb (length all) 8 ≡ a
@@ -90,13 +90,14 @@ module _ (session : Session) where
   not-twelve role bytes =
       taken-as (λ (n : ℕ). n ≡ 12 → ⊥) (λ e. omega arith) (λ e. omega arith) (λ e. omega arith) (λ e. omega arith) (λ e. omega arith) role bytes
 
-  -- the stage after what the bytes do
-  abbrev Named : Transition → Type 0
-  Named next = stageAfter (next .outcome) (next .session .stage) ≡ next .session .stage
+  -- the stage after what the bytes do, and the configuration
+  record Named (next : Transition) : Type 0 where
+    stage : stageAfter (next .outcome) (next .session .stage) ≡ next .session .stage
+    same : next .session .configuration ≡ session .configuration
 
   begun-named : (port : Port) (v : Validated) → Named (begun session port v)
-  begun-named port (Validated.Refused refusal) = refl
-  begun-named port (Validated.Fits header) = refl
+  begun-named port (Validated.Refused refusal) = record { stage = refl; same = refl }
+  begun-named port (Validated.Fits header) = record { stage = refl; same = refl }
 
   transition-named : (role : Role) (port : Port) (bytes : List ℕ) → Named (transition role session port bytes)
   unfolding transition passwordReceived headerReceived checked loaded
@@ -105,17 +106,18 @@ module _ (session : Session) where
       let passed = enters session (Stage.Header port) Outcome.Taken in
       let tested = passes all (session .configuration .password) in
       by-test Named (cond tested passed (stops session Refusal.Password)) (holds session Stage.Password all) (eqb (length all) 8)
-      (λ e. by-test Named passed (stops session Refusal.Password) tested (λ f. refl) (λ f. refl))
-      (λ e. refl)
+      (λ e. by-test Named passed (stops session Refusal.Password) tested
+      (λ f. record { stage = refl; same = refl }) (λ f. record { stage = refl; same = refl }))
+      (λ e. record { stage = refl; same = refl })
   transition-named Role.Header port bytes =
       let all = received session bytes in
       let v = validated (session .configuration) (headerRead (session .configuration) all) in
       by-test Named (begun session port v) (holds session (Stage.Header port) all) (eqb (length all) 8)
-      (λ e. begun-named port v) (λ e. refl)
+      (λ e. begun-named port v) (λ e. record { stage = refl; same = refl })
   transition-named (Role.Data load) port bytes =
       by-test Named (enters session (Stage.Jumped (jumpOf load)) (Outcome.Jumps (jumpOf load)))
       (enters session (Stage.Data port (advanced load (length bytes))) Outcome.Taken) (eqb (length bytes) (load .owed))
-      (λ e. refl) (λ e. refl)
+      (λ e. record { stage = refl; same = refl }) (λ e. record { stage = refl; same = refl })
 
   -- data bytes that are taken get 0 or 5
   taken-kept : (role : Role) (sram bytes : List ℕ) → (takenNumber role session bytes ≡ 0 → ⊥)
@@ -155,30 +157,45 @@ counted-echoed Role.Header Port.Can item e = eight-echoed 0x012 item e
 counted-echoed (Role.Data load) Port.Can item e = data-echoed (load .owed) item e
 counted-echoed role Port.Serial item e = clean-echoed item e
 
--- what a reaction says of the rows: the identifier of the echo, and whether the item is a faulty byte behind the opening of serial
+-- what a reaction says of the rows: the identifier of the echo, and whether the item is one of serial while serial is going
 abbrev RowBy : Stage → Item → Reaction → Type 0
-RowBy stage item Reaction.Ignores = (serialGoing stage && faultyByte item) ≡ false
+RowBy stage item Reaction.Ignores = (serialGoing stage && bySerial item) ≡ false
 RowBy stage item (Reaction.Takes role port) = echoedUnder item ≡ underPort port (echoIdentifier role)
-RowBy stage item Reaction.Stops = (serialGoing stage && faultyByte item) ≡ true
+RowBy stage item Reaction.Stops = (serialGoing stage && bySerial item) ≡ true
 
-row-opened : (stage : Stage) (role : Role) (port : Port) (item : Item)
-    → (serialGoing stage && faultyByte item) ≡ stopsBy port item
-    → RowBy stage item (heardOpened role port item)
-row-opened stage role port item same =
-    by-hearing-opened (RowBy stage item) role port item (counted-echoed role port item) (λ f e. same ∙ f) (λ f e. same ∙ f)
+-- what stops is of serial, and what is neither clean nor faulty is not
+stops-serial : (item : Item) → faultyByte item ≡ true → bySerial item ≡ true
+stops-serial (Item.Of (Source.Can identifier) bytes) f = absurd (false≢true f)
+stops-serial (Item.Of (Source.Serial mark) bytes) f = refl
 
-row-by : (stage : Stage) (item : Item) → RowBy stage item (reaction stage item)
+left-other : (item : Item) → wellFormed item ≡ true → cleanByte item ≡ false → faultyByte item ≡ false → bySerial item ≡ false
+left-other (Item.Of (Source.Can identifier) bytes) formed e f = refl
+left-other (Item.Of (Source.Serial mark) bytes) formed e f =
+    absurd (true≢false (sym (clean-or-faulty (Item.Of (Source.Serial mark) bytes) formed refl e) ∙ f))
+
+row-serial : (stage : Stage) (role : Role) (item : Item) → wellFormed item ≡ true → serialGoing stage ≡ true
+    → RowBy stage item (heardOpened role Port.Serial item)
+row-serial stage role item formed going =
+    by-hearing-opened (RowBy stage item) role Port.Serial item (counted-echoed role Port.Serial item)
+    (λ f e. rw (going, stops-serial item f)) (λ f e. rw (going, left-other item formed e f))
+
+row-other : (stage : Stage) (role : Role) (item : Item) → serialGoing stage ≡ false → RowBy stage item (heardOpened role Port.Can item)
+row-other stage role item going =
+    by-hearing-opened (RowBy stage item) role Port.Can item (counted-echoed role Port.Can item)
+    (λ f e. absurd (false≢true f)) (λ f e. rw going)
+
+row-by : (stage : Stage) (item : Item) → wellFormed item ≡ true → RowBy stage item (reaction stage item)
 unfolding reaction
-row-by Stage.Waiting item =
+row-by Stage.Waiting item formed =
     let port = portOf item in
-    by-hearing (RowBy Stage.Waiting item) Role.Password port item Reaction.Ignores (counted-echoed Role.Password port item) (λ e. refl)
-row-by Stage.Password item = row-opened Stage.Password Role.Password Port.Serial item refl
-row-by (Stage.Header Port.Can) item = row-opened (Stage.Header Port.Can) Role.Header Port.Can item refl
-row-by (Stage.Header Port.Serial) item = row-opened (Stage.Header Port.Serial) Role.Header Port.Serial item refl
-row-by (Stage.Data Port.Can load) item = row-opened (Stage.Data Port.Can load) (Role.Data load) Port.Can item refl
-row-by (Stage.Data Port.Serial load) item = row-opened (Stage.Data Port.Serial load) (Role.Data load) Port.Serial item refl
-row-by (Stage.Stopped refusal) item = refl
-row-by (Stage.Jumped jump) item = refl
+    by-hearing (RowBy Stage.Waiting item) Role.Password port item (counted-echoed Role.Password port item) (λ e. refl)
+row-by Stage.Password item formed = row-serial Stage.Password Role.Password item formed refl
+row-by (Stage.Header Port.Can) item formed = row-other (Stage.Header Port.Can) Role.Header item refl
+row-by (Stage.Header Port.Serial) item formed = row-serial (Stage.Header Port.Serial) Role.Header item formed refl
+row-by (Stage.Data Port.Can load) item formed = row-other (Stage.Data Port.Can load) (Role.Data load) item refl
+row-by (Stage.Data Port.Serial load) item formed = row-serial (Stage.Data Port.Serial load) (Role.Data load) item formed refl
+row-by (Stage.Stopped refusal) item formed = refl
+row-by (Stage.Jumped jump) item formed = refl
 
 module _ (session : Session) (sram : List ℕ) (item : Item) where
   -- the tests of the table, in their order
@@ -189,14 +206,14 @@ module _ (session : Session) (sram : List ℕ) (item : Item) where
       × (wellFormed item ≡ c)
       × (reaction (session .stage) item ≡ r)
 
-  row : (r : Reaction) → reaction (session .stage) item ≡ r → RowBy (session .stage) item r
-  row r e = rw e at (row-by (session .stage) item)
+  row : (r : Reaction) → wellFormed item ≡ true → reaction (session .stage) item ≡ r → RowBy (session .stage) item r
+  row r formed e = rw e at (row-by (session .stage) item formed)
 
   pub exactly : (a b c : Bool) (r : Reaction) → Tested a b c r → step session sram item .number ≡ numberDue session sram item
   unfolding step takenAs precheck
   exactly true true true (Reaction.Takes role port) t = rw (t .0, t .1, t .2, t .3) (taken-number session role port (bytesOf item))
-  exactly true true true Reaction.Ignores t = rw (t .0, t .1, t .2, t .3, row Reaction.Ignores (t .3))
-  exactly true true true Reaction.Stops t = rw (t .0, t .1, t .2, t .3, row Reaction.Stops (t .3))
+  exactly true true true Reaction.Ignores t = rw (t .0, t .1, t .2, t .3, row Reaction.Ignores (t .2) (t .3))
+  exactly true true true Reaction.Stops t = rw (t .0, t .1, t .2, t .3, row Reaction.Stops (t .2) (t .3))
   exactly true true false r t = rw (t .0, t .1, t .2)
   exactly true false c r t = rw (t .0, t .1)
   exactly false b c r t = rw (t .0)
@@ -220,7 +237,7 @@ module _ (session : Session) (sram : List ℕ) (item : Item) where
   unmoved true true true (Reaction.Takes role port) t e =
       absurd (true≢false (sym (rw (t .0, t .1, t .2, t .3) at e) ∙ taken-changes session role (bytesOf item)))
   unmoved true true true Reaction.Ignores t e = rw (t .0, t .1, t .2, t .3)
-  unmoved true true true Reaction.Stops t e = absurd (false≢true (rw (t .0, t .1, t .2, t .3, row Reaction.Stops (t .3)) at e))
+  unmoved true true true Reaction.Stops t e = absurd (false≢true (rw (t .0, t .1, t .2, t .3, row Reaction.Stops (t .2) (t .3)) at e))
   unmoved true true false r t e = rw (t .0, t .1, t .2)
   unmoved true false c r t e = rw (t .0, t .1)
   unmoved false b c r t e = rw (t .0)
@@ -228,9 +245,9 @@ module _ (session : Session) (sram : List ℕ) (item : Item) where
   pub echoed : (a b c : Bool) (r : Reaction) → Tested a b c r → sendsEcho (numberDue session sram item) ≡ true
       → step session sram item .answer .echo ≡ echoUnder (echoedUnder item) (bytesOf item)
   unfolding step takenAs precheck
-  echoed true true true (Reaction.Takes role port) t e = rw (t .0, t .1, t .2, t .3, row (Reaction.Takes role port) (t .3))
-  echoed true true true Reaction.Ignores t e = absurd (false≢true (rw (t .0, t .1, t .2, t .3, row Reaction.Ignores (t .3)) at e))
-  echoed true true true Reaction.Stops t e = absurd (false≢true (rw (t .0, t .1, t .2, t .3, row Reaction.Stops (t .3)) at e))
+  echoed true true true (Reaction.Takes role port) t e = rw (t .0, t .1, t .2, t .3, row (Reaction.Takes role port) (t .2) (t .3))
+  echoed true true true Reaction.Ignores t e = absurd (false≢true (rw (t .0, t .1, t .2, t .3, row Reaction.Ignores (t .2) (t .3)) at e))
+  echoed true true true Reaction.Stops t e = absurd (false≢true (rw (t .0, t .1, t .2, t .3, row Reaction.Stops (t .2) (t .3)) at e))
   echoed true true false r t e = absurd (false≢true (rw (t .0, t .1, t .2) at e))
   echoed true false c r t e = absurd (false≢true (rw (t .0, t .1) at e))
   echoed false b c r t e = absurd (false≢true (rw (t .0) at e))
@@ -250,12 +267,22 @@ module _ (session : Session) (sram : List ℕ) (item : Item) where
       → stageAfter (step session sram item .answer .outcome) (step session sram item .session .stage)
       ≡ step session sram item .session .stage
   unfolding step takenAs precheck
-  leaves true true true (Reaction.Takes role port) t = rw (t .0, t .1, t .2, t .3) (transition-named session role port (bytesOf item))
+  leaves true true true (Reaction.Takes role port) t = rw (t .0, t .1, t .2, t .3) (transition-named session role port (bytesOf item) .stage)
   leaves true true true Reaction.Ignores t = rw (t .0, t .1, t .2, t .3)
   leaves true true true Reaction.Stops t = rw (t .0, t .1, t .2, t .3)
   leaves true true false r t = rw (t .0, t .1, t .2)
   leaves true false c r t = rw (t .0, t .1)
   leaves false b c r t = rw (t .0)
+
+  pub configured : (a b c : Bool) (r : Reaction) → Tested a b c r
+      → step session sram item .session .configuration ≡ session .configuration
+  unfolding step takenAs precheck
+  configured true true true (Reaction.Takes role port) t = rw (t .0, t .1, t .2, t .3) (transition-named session role port (bytesOf item) .same)
+  configured true true true Reaction.Ignores t = rw (t .0, t .1, t .2, t .3)
+  configured true true true Reaction.Stops t = rw (t .0, t .1, t .2, t .3)
+  configured true true false r t = rw (t .0, t .1, t .2)
+  configured true false c r t = rw (t .0, t .1)
+  configured false b c r t = rw (t .0)
 
   pub accepted : (a b c : Bool) (r : Reaction) → Tested a b c r → numberDue session sram item ≡ 12
       → acceptedVle (step session sram item .session .stage) ≡ acceptedVle (session .stage)
@@ -269,9 +296,9 @@ module _ (session : Session) (sram : List ℕ) (item : Item) where
   accepted false b c r t e = rw (t .0)
 
   -- 5 is given only for the last byte of a load
-  not-five : (stage : Stage) → leftNumber stage item ≡ 5 → ⊥
+  not-five : (stage : Stage) → untakenNumber stage item ≡ 5 → ⊥
   not-five stage =
-      by-test (λ (n : ℕ). n ≡ 5 → ⊥) 12 1 (serialGoing stage && faultyByte item) (λ e f. omega arith) (λ e f. omega arith)
+      by-test (λ (n : ℕ). n ≡ 5 → ⊥) 12 1 (serialGoing stage && bySerial item) (λ e f. omega arith) (λ e f. omega arith)
 
   pub jumps : (port : Port) (load : Load) → session .stage ≡ Stage.Data port load → (a b c counts stops last : Bool)
       → rightSize (session .configuration) sram ≡ a

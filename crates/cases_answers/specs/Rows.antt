@@ -19,7 +19,7 @@ use Rattle.session_items.specs.declared.Reaction.{Reaction}
 use Rattle.session_items.specs.declared.Role.{Role}
 use Rattle.session_items.specs.declared.Source.{Source}
 use Rattle.session_items.specs.Items.{Item, wellFormed, bytesOf}
-use Rattle.session_items.specs.Reacting.{faultyByte, reaction}
+use Rattle.session_items.specs.Reacting.{reaction}
 use Rattle.session_answers.specs.declared.Outcome.{Outcome}
 use Rattle.session_answers.specs.Answers.{echoUnder, noEcho, unchanged}
 use Rattle.session.specs.Rules.{received, step}
@@ -61,14 +61,18 @@ serialGoing (Stage.Data Port.Serial load) = true
 serialGoing (Stage.Stopped refusal) = false
 serialGoing (Stage.Jumped jump) = false
 
--- any other item that is not taken, "item ignored": 1
-abbrev pub leftNumber : Stage → Item → ℕ
-leftNumber stage item = cond (serialGoing stage && faultyByte item) 12 1
+-- by serial what is of the right form and not taken is faulty; any other item that is not taken, "item ignored": 1
+abbrev pub bySerial : Item → Bool
+bySerial (Item.Of (Source.Can identifier) bytes) = false
+bySerial (Item.Of (Source.Serial mark) bytes) = true
+
+abbrev pub untakenNumber : Stage → Item → ℕ
+untakenNumber stage item = cond (serialGoing stage && bySerial item) 12 1
 
 abbrev pub ruledNumber : Reaction → Session → Item → ℕ
 ruledNumber (Reaction.Takes role port) session item = takenNumber role session (bytesOf item)
-ruledNumber Reaction.Ignores session item = leftNumber (session .stage) item
-ruledNumber Reaction.Stops session item = leftNumber (session .stage) item
+ruledNumber Reaction.Ignores session item = untakenNumber (session .stage) item
+ruledNumber Reaction.Stops session item = untakenNumber (session .stage) item
 
 -- "One item: 7, then 8, then 6, then the session's rules."
 abbrev pub numberDue : Session → List ℕ → Item → ℕ
@@ -94,7 +98,7 @@ abbrev pub echoedUnder : Item → ℕ
 echoedUnder (Item.Of (Source.Can identifier) bytes) = identifier - 0x010
 echoedUnder (Item.Of (Source.Serial mark) bytes) = 0
 
--- the stage after an answer: 2 to 4 and 12 "session stopped", 5 where the head jumps; of the others no row names a stage
+-- the stage after an answer: 2 to 4 "session stopped", and so 12; 5 where the head jumps; of the others no row names a stage
 abbrev pub stageAfter : Outcome → Stage → Stage
 stageAfter Outcome.Taken stage = stage
 stageAfter Outcome.Ignored stage = stage
@@ -103,7 +107,7 @@ stageAfter (Outcome.Jumps jump) stage = Stage.Jumped jump
 stageAfter (Outcome.Refused fault) stage = stage
 
 -- "Each is given exactly in its row's case. Only 0 and 5 may change SRAM.", and of what the rows return and leave: what changes nothing, the
--- echoes, the jump, the stages of 2 to 5 and 12, and the header that stays accepted with 12
+-- echoes, the jump, the stages of 2 to 5 and 12, and the header that stays accepted with 12; what the boot choice fixed no item changes
 pub record RowsHold : Type 0 where
   pub exactly : (session : Session) (sram : List ℕ) (item : Item)
       → step session sram item .number ≡ numberDue session sram item
@@ -124,6 +128,8 @@ pub record RowsHold : Type 0 where
   pub leaves : (session : Session) (sram : List ℕ) (item : Item)
       → stageAfter (step session sram item .answer .outcome) (step session sram item .session .stage)
       ≡ step session sram item .session .stage
+  pub configured : (session : Session) (sram : List ℕ) (item : Item)
+      → step session sram item .session .configuration ≡ session .configuration
   -- 12: an accepted header stays so
   pub stays-accepted : (session : Session) (sram : List ℕ) (item : Item) → numberDue session sram item ≡ 12
       → acceptedVle (step session sram item .session .stage) ≡ acceptedVle (session .stage)

@@ -26,7 +26,7 @@ abbrev clean : ℕ → Item
 clean byte = Item.Of (Source.Serial 0) (byte ∷ [])
 
 abbrev faulty : ℕ → Item
-faulty byte = Item.Of (Source.Serial 1) (byte ∷ [])
+faulty byte = Item.Of (Source.Serial 2) (byte ∷ [])
 
 abbrev runOf : List Item → Run
 runOf items = ran (freshSession public) (filledWith 0xEE) items
@@ -153,12 +153,15 @@ listTable =
     ++ opened
     ++ (clean 0xAA ∷ faulty 0xBB ∷ clean 0xBB ∷ faulty 0xCC ∷ []))
     ∷ trial (jumpsIn (runOf finished .calls)) (Outcome.Jumps (record { start = record { 0 = 0x40000004 }; vle = true }) ∷ [])
+    ∷ trial (numbersOf (runOf finished)) ((1 ∷ 1 ∷ 0 ∷ 1 ∷ []) ++ replicate 16 0 ++ (6 ∷ 5 ∷ 1 ∷ []))
     ∷ trial (plainOf public finished) (publicPassword ++ shortHeader ++ (0xAA ∷ 0xBB ∷ []))
     ∷ trial (runOf finished .sram) (replicate 4 0xEE ++ (0xAA ∷ 0xBB ∷ []) ++ replicate 65530 0xEE)
     -- in the password, and before and in the header, of which nothing is accepted yet
     ∷ trial (numbersOf (runOf (cutBehind 7))) (replicate 7 0 ++ (12 ∷ 1 ∷ []))
     ∷ trial (runOf (cutBehind 7) .session) (stoppedWith false)
     ∷ trial (numbersOf (runOf (cutBehind 8))) (replicate 8 0 ++ (12 ∷ 1 ∷ []))
+    ∷ trial (runOf (cutBehind 8) .session) (stoppedWith false)
+    ∷ trial (numbersOf (runOf (cutBehind 15))) (replicate 15 0 ++ (12 ∷ 1 ∷ []))
     ∷ trial (runOf (cutBehind 15) .session) (stoppedWith false)
     ∷ trial (numbersOf (runOf silent)) (1 ∷ 1 ∷ 1 ∷ [])
     ∷ trial (streamOf silent) []

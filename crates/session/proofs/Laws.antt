@@ -32,7 +32,7 @@ use Rattle.session_items.proofs.Laws.{by-hearing, by-hearing-opened, EightBy, D
 use Rattle.session_answers.specs.declared.Fault.{Fault}
 use Rattle.session_answers.specs.declared.Outcome.{Outcome}
 use Rattle.session_answers.specs.declared.Prechecked.{Prechecked}
-use Rattle.session_answers.specs.Answers.{resultOf, precheck, notTaken, unchanged}
+use Rattle.session_answers.specs.Answers.{resultOf, precheck, unheeded, unchanged}
 use Rattle.session_answers.proofs.Laws.{Accepted, precheck-passed}
 use Rattle.session.specs.declared.Transition.{Transition}
 use Rattle.session.specs.Room.{Room}
@@ -87,7 +87,7 @@ module _ (session : Session) (item : Item) where
   reacted-in Stage.Waiting s =
       let none = eqb-true (session .count) 0 s in
       let port = portOf item in
-      by-hearing (Reacted session item) Role.Password port item Reaction.Ignores
+      by-hearing (Reacted session item) Role.Password port item
       (λ e. taken-as Role.Password port e
       (gathered port session (length (bytesOf item)) (counted Role.Password port item e .sized) (omega arith) (λ h. none)))
       (λ e. tt)
@@ -144,7 +144,7 @@ module _ (session : Session) (sram : List ℕ) (item : Item) (ok : Accepted sess
   step-stops e = rw (ok .right, ok .fine, reacted session item (ok .fine) Reaction.Stops e, e)
 
   pub step-ignores : reaction (session .stage) item ≡ Reaction.Ignores
-      → step session sram item ≡ unchanged (notTaken item) session sram
+      → step session sram item ≡ unchanged (unheeded item) session sram
   unfolding step precheck
   step-ignores e = rw (ok .right, ok .fine) (either (wellFormed item))
     where

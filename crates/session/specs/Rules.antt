@@ -1,4 +1,4 @@
--- What an item does to a session and to SRAM (01, "A serial session" and "What the head says back").
+-- What an item does to a session and to SRAM (01, "A serial session" and "What the head says back"; 02, E2).
 use Prim.Native.Nat.{ℕ, _+_, _-_}
 use mathlib.Core.List.{List, _++_}
 use mathlib.Core.Bool.{cond}

@@ -1,4 +1,4 @@
-// What an item does to a session and to SRAM (01, "A serial session").
+// What an item does to a session and to SRAM (01, "A serial session"; 02, E2).
 ghost use mathlib.Core.Path.{_≡_};
 ghost use Prim.Native.Nat.{_+_, _≤_};
 ghost use mathlib.Core.Bool.{true};

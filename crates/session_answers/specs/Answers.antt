@@ -1,4 +1,4 @@
--- What the head says back (01, "What the head says back").
+-- What the head says back (01, "What the head says back"; 02, E2).
 use Prim.Native.Nat.{ℕ}
 use mathlib.Core.List.{List}
 use mathlib.Core.Bool.{Bool, cond}
@@ -89,17 +89,18 @@ resultOf result sram =
       sram = sram;
     }
 
--- no echo, and the session that is handed in, which is the one before the step: "no echo; nothing changed" (number 1), "number only; nothing
--- changed" (numbers 6, 7 and 8); or one that a faulty byte has stopped
+-- "no echo" (number 1; with 12 in 02, E2), "number only" (numbers 6, 7 and 8)
 abbrev pub withoutEcho : Outcome → Answer
 withoutEcho outcome = record { outcome = outcome; echo = noEcho }
 
+-- with the session that the step leaves
 abbrev pub nothingTaken : Outcome → Session → StepResult
 nothingTaken outcome session = record { answer = withoutEcho outcome; session = session }
 
+-- "nothing changed" (numbers 1, 6, 7 and 8)
 abbrev pub unchanged : Outcome → Session → List ℕ → Result
 unchanged outcome session sram = resultOf (nothingTaken outcome session) sram
 
--- an item that is not taken: 6 if that is due, and otherwise 1
-abbrev pub notTaken : Item → Outcome
-notTaken item = cond (wellFormed item) Outcome.Ignored (Outcome.Refused Fault.Form)
+-- "An item outside the stream gets 6 if that is due and otherwise 1": so does every item that does nothing to a session
+abbrev pub unheeded : Item → Outcome
+unheeded item = cond (wellFormed item) Outcome.Ignored (Outcome.Refused Fault.Form)

@@ -137,7 +137,7 @@ pub fn echo_of(role: Role, port: Port, bytes: &[u8]) -> Echo
     echo_under(under_port(port, echo_identifier(role)), bytes)
 }
 
-// No echo, and the session as it is handed in.
+// No echo, and the session that the step leaves.
 pub fn take_nothing(session: Session, outcome: Outcome) -> StepResult
     ensures { λ r. ⌜ r ≡ nothingTaken outcome session ⌝ }
 {

@@ -1,8 +1,8 @@
 -- What an item that counts for a role by a port says of its form, its port and its bytes.
 use Prim.Native.Nat.{ℕ, _≤_}
 use native.Mathlib.Omega.{arith}
-use mathlib.Core.Path.{_≡_, refl}
-use mathlib.Core.Bool.{true, false, not, _&&_, and-eq-true-iff, false≢true}
+use mathlib.Core.Path.{_≡_, refl, sym}
+use mathlib.Core.Bool.{Bool, true, false, cond, not, _&&_, and-eq-true-iff, false≢true}
 use borrow.Author.Tests.{eqb-true, leb-true, le-leb}
 use lib.Dec.{leb, eqb}
 use lib.ListN.{length}
@@ -12,15 +12,15 @@ use Rattle.session_items.specs.declared.Reaction.{Reaction}
 use Rattle.session_items.specs.declared.Role.{Role}
 use Rattle.session_items.specs.declared.Source.{Source}
 use Rattle.session_items.specs.Items.{Item, wellFormed, portOf, bytesOf}
-use Rattle.session_items.specs.Reacting.{eightUnder, dataFitting, cleanByte, countsAs, heard, stopsBy, uncounted, heardOpened}
+use Rattle.session_items.specs.Reacting.{eightUnder, dataFitting, cleanByte, faultyByte, countsAs, stopsBy, heard, heardOpened}
 
--- an item is taken or not by whether it counts
-pub by-hearing : (P : Reaction → Type 0) (role : Role) (port : Port) (item : Item) (otherwise : Reaction)
+-- an item is taken or ignored by whether it counts
+pub by-hearing : (P : Reaction → Type 0) (role : Role) (port : Port) (item : Item)
     → (countsAs role port item ≡ true → P (Reaction.Takes role port))
-    → (countsAs role port item ≡ false → P otherwise)
-    → P (heard role port item otherwise)
-by-hearing P role port item otherwise takes leaves =
-    by-test P (Reaction.Takes role port) otherwise (countsAs role port item) takes leaves
+    → (countsAs role port item ≡ false → P Reaction.Ignores)
+    → P (heard role port item)
+by-hearing P role port item takes ignores =
+    by-test P (Reaction.Takes role port) Reaction.Ignores (countsAs role port item) takes ignores
 
 -- behind the opening it is taken, stops the session, or is ignored
 pub by-hearing-opened : (P : Reaction → Type 0) (role : Role) (port : Port) (item : Item)
@@ -29,7 +29,7 @@ pub by-hearing-opened : (P : Reaction → Type 0) (role : Role) (port : Port) (i
     → (stopsBy port item ≡ false → countsAs role port item ≡ false → P Reaction.Ignores)
     → P (heardOpened role port item)
 by-hearing-opened P role port item takes stops ignores =
-    by-hearing P role port item (uncounted port item) takes
+    by-test P (Reaction.Takes role port) (cond (stopsBy port item) Reaction.Stops Reaction.Ignores) (countsAs role port item) takes
     (λ e. by-test P Reaction.Stops Reaction.Ignores (stopsBy port item) (λ f. stops f e) (λ f. ignores f e))
 
 -- how many bytes an item has: by CAN all 8 of a password or a header come at once, by serial one comes at a time
@@ -61,6 +61,16 @@ stopping-own Port.Serial (Item.Of (Source.Serial mark) bytes) e =
 
 pub serial-not-can : Port.Serial ≡ Port.Can → ⊥
 serial-not-can h = let z : _≡_ {A = ℕ} 0 1 = cc in omega arith
+
+-- a whole item of serial is clean or faulty
+pub clean-or-faulty : (item : Item) → wellFormed item ≡ true → portOf item ≡ Port.Serial → cleanByte item ≡ false → faultyByte item ≡ true
+clean-or-faulty (Item.Of (Source.Can identifier) bytes) formed own e = absurd (serial-not-can (sym own))
+clean-or-faulty (Item.Of (Source.Serial mark) bytes) formed own e = either (eqb (length bytes) 1) (eqb mark 0) formed e
+  where
+    either : (one marked : Bool) → one ≡ true → one && marked ≡ false → one && not marked ≡ true
+    either true true formed e = absurd (false≢true (sym e))
+    either true false formed e = refl
+    either false marked formed e = absurd (false≢true formed)
 
 eight-counted : (role : Role) (wanted : ℕ) (item : Item) → wanted ≤ 2047 → eightUnder wanted item ≡ true
     → (length (bytesOf item) ≡ 8 → Sized role Port.Can (length (bytesOf item)))

@@ -1,4 +1,4 @@
--- What a stage does with an item (01, "A serial session"; 02, E2): it ignores it, takes it in a role by a port, or is stopped by it.
+-- What a stage does with an item (01, "A serial session"; 02, E2): it ignores it, takes it in a role by a port, or stops, taking nothing.
 use Prim.Native.Nat.{ℕ}
 use mathlib.Core.Bool.{Bool, false, cond, not, _&&_}
 use lib.ListN.{length}
@@ -43,27 +43,25 @@ countsAs role Port.Serial item = cleanByte item
 abbrev pub opens : Item → Bool
 opens item = countsAs Role.Password (portOf item) item
 
--- what counts is taken
-abbrev pub heard : Role → Port → Item → Reaction → Reaction
-heard role port item otherwise = cond (countsAs role port item) (Reaction.Takes role port) otherwise
-
--- What stops a session that has opened a port: "A faulty serial byte after the serial port has opened" (02, E2). Nothing stops one of CAN,
--- where a faulty byte is the other port's item.
+-- what stops a session that has opened a port, and is not taken: "A faulty serial byte after the serial port has opened" (02, E2); to CAN a faulty
+-- byte is the other port's item
 abbrev pub stopsBy : Port → Item → Bool
 stopsBy Port.Can item = false
 stopsBy Port.Serial item = faultyByte item
 
--- what does not count behind the opening: "Other frames are ignored", and "The other port's items are ignored from then on."
-abbrev pub uncounted : Port → Item → Reaction
-uncounted port item = cond (stopsBy port item) Reaction.Stops Reaction.Ignores
+-- before the opening what counts is taken
+abbrev pub heard : Role → Port → Item → Reaction
+heard role port item = cond (countsAs role port item) (Reaction.Takes role port) Reaction.Ignores
 
+-- and behind it; "Other frames are ignored", and "The other port's items are ignored from then on."
 abbrev pub heardOpened : Role → Port → Item → Reaction
-heardOpened role port item = heard role port item (uncounted port item)
+heardOpened role port item =
+    cond (countsAs role port item) (Reaction.Takes role port) (cond (stopsBy port item) Reaction.Stops Reaction.Ignores)
 
 -- "Waiting: a CAN frame 0x011 with 8 bytes opens CAN and is the password. A clean serial byte opens serial and is the first of 8 password
 -- bytes. All else is ignored."; "Stopped and jumped sessions ignore everything."
 unfoldable pub reaction : Stage → Item → Reaction
-reaction Stage.Waiting item = heard Role.Password (portOf item) item Reaction.Ignores
+reaction Stage.Waiting item = heard Role.Password (portOf item) item
 reaction Stage.Password item = heardOpened Role.Password Port.Serial item
 reaction (Stage.Header port) item = heardOpened Role.Header port item
 reaction (Stage.Data port load) item = heardOpened (Role.Data load) port item

@@ -2,7 +2,7 @@
 ghost use mathlib.Core.Path.{_≡_};
 ghost use Rattle.octets.specs.Read.{halfAt};
 ghost use Rattle.session_items.specs.Items.{Item, wellFormed, portFrom, isItem, markOf, sourceOf, leading};
-ghost use Rattle.session_items.specs.Reacting.{eightUnder, dataFitting, cleanByte, faultyByte, countsAs, heard, stopsBy, uncounted, heardOpened, reaction};
+ghost use Rattle.session_items.specs.Reacting.{eightUnder, dataFitting, cleanByte, faultyByte, countsAs, stopsBy, heard, heardOpened, reaction};
 use session_state::Load;
 use session_state::Port;
 use session_state::Stage;
@@ -106,17 +106,7 @@ fn counts_as(role: Role, port: Port, source: Source, bytes: &[u8]) -> bool
     }
 }
 
-// An item is taken in a role by a port, if it counts there.
-fn hear(role: Role, port: Port, source: Source, bytes: &[u8], otherwise: Reaction) -> Reaction
-    ensures { λ r. ⌜ r ≡ heard role port (Item.Of source (now (bytes .entry))) otherwise ⌝ }
-{
-    if counts_as(role, port, source, bytes) {
-        return Reaction::Takes(role, port);
-    }
-    otherwise
-}
-
-// Whether an item stops a session that has opened a port.
+// Whether an item stops a session that has opened a port, and is not taken.
 fn is_stopping(port: Port, source: Source, bytes: &[u8]) -> bool
     ensures { λ r. ⌜ r ≡ stopsBy port (Item.Of source (now (bytes .entry))) ⌝ }
 {
@@ -126,21 +116,27 @@ fn is_stopping(port: Port, source: Source, bytes: &[u8]) -> bool
     }
 }
 
-// What an item does that does not count behind the opening.
-fn pass_over(port: Port, source: Source, bytes: &[u8]) -> Reaction
-    ensures { λ r. ⌜ r ≡ uncounted port (Item.Of source (now (bytes .entry))) ⌝ }
+// An item is taken in a role by a port, if it counts there.
+fn hear(role: Role, port: Port, source: Source, bytes: &[u8]) -> Reaction
+    ensures { λ r. ⌜ r ≡ heard role port (Item.Of source (now (bytes .entry))) ⌝ }
 {
-    if is_stopping(port, source, bytes) {
-        return Reaction::Stops;
+    if counts_as(role, port, source, bytes) {
+        return Reaction::Takes(role, port);
     }
     Reaction::Ignores
 }
 
-// An item behind the opening.
+// Behind the opening it may stop the session.
 fn hear_opened(role: Role, port: Port, source: Source, bytes: &[u8]) -> Reaction
     ensures { λ r. ⌜ r ≡ heardOpened role port (Item.Of source (now (bytes .entry))) ⌝ }
 {
-    hear(role, port, source, bytes, pass_over(port, source, bytes))
+    if counts_as(role, port, source, bytes) {
+        return Reaction::Takes(role, port);
+    }
+    if !is_stopping(port, source, bytes) {
+        return Reaction::Ignores;
+    }
+    Reaction::Stops
 }
 
 // What a stage does with an item.
@@ -148,13 +144,7 @@ pub fn react(stage: Stage, source: Source, bytes: &[u8]) -> Reaction
     ensures { λ r. ⌜ r ≡ reaction stage (Item.Of source (now (bytes .entry))) ⌝ }
 {
     match stage {
-        Stage::Waiting => hear(
-            Role::Password,
-            port_of(source),
-            source,
-            bytes,
-            Reaction::Ignores,
-        ),
+        Stage::Waiting => hear(Role::Password, port_of(source), source, bytes),
         Stage::Password => hear_opened(Role::Password, Port::Serial, source, bytes),
         Stage::Header(port) => hear_opened(Role::Header, port, source, bytes),
         Stage::Data(port, load) => hear_opened(Role::Data(load), port, source, bytes),

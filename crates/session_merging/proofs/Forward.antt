@@ -32,17 +32,18 @@ use Rattle.session_items.specs.declared.Role.{Role}
 use Rattle.session_items.specs.declared.Source.{Source}
 use Rattle.session_items.specs.Items.{Item, wellFormed, portOf, bytesOf}
 use Rattle.session_items.specs.Reacting.{cleanByte, faultyByte, countsAs, opens, stopsBy, reaction}
-use Rattle.session_items.proofs.Laws.{by-hearing, by-hearing-opened}
+use Rattle.session_items.proofs.Laws.{by-hearing, by-hearing-opened, counted, stopping-own, clean-or-faulty}
 use Rattle.session_answers.specs.declared.Fault.{Fault}
 use Rattle.session_answers.specs.declared.Outcome.{Outcome}
-use Rattle.session_answers.specs.Answers.{outcomeNumber, notTaken}
+use Rattle.session_answers.specs.Answers.{outcomeNumber, unheeded}
 use Rattle.session_answers.proofs.Laws.{Accepted}
 use Rattle.session_fresh.specs.Fresh.{freshSession}
 use Rattle.session.specs.declared.Transition.{Transition}
 use Rattle.session.specs.Rules.{enters, stops, received, holds, checked, begun, loaded, loadFrom, jumpOf, advanced, passwordReceived, headerReceived, transition, sramAfter, takenAs, stoppedByFaultyByte}
 use Rattle.session.specs.Running.{Call, Run, ran}
 use Rattle.session.proofs.Laws.{Gathered, reacted-in, reacted, step-takes, step-stops, step-ignores, kept, kept-stopped, received-all, received-at-once}
-use Rattle.session_merging.specs.Merging.{pickedPort, only, jumpsIn, cleanToFaulty, cleanBytes, dataBytes, bytesFromHeader, bytesFromPassword, plainFrom, plainHeader, announced, complete, plainJump}
+use Rattle.session_merging.specs.Merging.{pickedPort, inStream, only, jumpsIn, cleanRun, bytesFromClean, dataBytes, bytesFromHeader, bytesFromPassword, plainFrom, plainOf, plainHeader, announced, complete, plainJump}
+use Rattle.session_merging.proofs.Ports.{same-own}
 use Rattle.session_merging.proofs.Splitting.{short, unpassed, header-bytes, all-there, announced-there}
 
 -- of one call, its outcome if it gets 5
@@ -63,7 +64,7 @@ jumps-next call calls = either (eqb (outcomeNumber (call .answer .outcome)) 5)
     either true = refl
     either false = refl
 
-none-ignored : (item : Item) → five (notTaken item) ≡ []
+none-ignored : (item : Item) → five (unheeded item) ≡ []
 none-ignored item =
     by-test (λ (outcome : Outcome). five outcome ≡ []) Outcome.Ignored (Outcome.Refused Fault.Form) (wellFormed item) (λ e. refl) (λ e. refl)
 
@@ -88,78 +89,136 @@ reads (Stage.Data port load) = true
 reads (Stage.Stopped refusal) = false
 reads (Stage.Jumped jump) = false
 
+-- What counts by a port is in its stream, and what stops a session of it; and a serial item of its stream is clean or faulty.
+
+counts-inside : (role : Role) (port : Port) (item : Item) → countsAs role port item ≡ true → inStream (some port) item ≡ true
+counts-inside role port item e = let c = counted role port item e in rw (c .formed, c .own) (same-own port)
+
+stops-inside : (port : Port) (item : Item) → stopsBy port item ≡ true → inStream (some port) item ≡ true
+stops-inside port item e = let own = stopping-own port item e in rw (own .0, own .1) (same-own port)
+
+neither : (item : Item) → inStream (some Port.Serial) item ≡ true → cleanByte item ≡ false → faultyByte item ≡ false → ⊥
+neither (Item.Of (Source.Can identifier) bytes) i e f =
+    false≢true (and-eq-true-iff (wellFormed (Item.Of (Source.Can identifier) bytes)) false .0 i .1)
+neither (Item.Of (Source.Serial mark) bytes) i e f =
+    let item = Item.Of (Source.Serial mark) bytes in
+    true≢false (sym (clean-or-faulty item (and-eq-true-iff (wellFormed item) true .0 i .0) refl e) ∙ f)
+
+-- the items of a port's stream
+abbrev ofPort : Port → List Item → List Item
+ofPort port items = only (inStream (some port)) items
+
+module _ (port : Port) (item : Item) (items : List Item) where
+  kept-in : inStream (some port) item ≡ true → ofPort port (item ∷ items) ≡ item ∷ ofPort port items
+  unfolding only
+  kept-in e = rw e
+
+  -- an item that gives nothing where it is in the stream gives nothing
+  passed-by : (reading : List Item → List ℕ)
+      → (inStream (some port) item ≡ true → reading (item ∷ ofPort port items) ≡ reading (ofPort port items))
+      → reading (ofPort port (item ∷ items)) ≡ reading (ofPort port items)
+  unfolding only
+  passed-by reading inside =
+      by-test (λ (l : List Item). reading l ≡ reading (ofPort port items)) (item ∷ ofPort port items) (ofPort port items)
+      (inStream (some port) item) inside (λ e. refl)
+
+-- what serial reads behind the opening
+abbrev cleanRest : List Item → List ℕ
+cleanRest items = cleanRun (ofPort Port.Serial items)
+
+module _ (item : Item) (items : List Item) where
+  clean-taken : cleanByte item ≡ true → cleanRest (item ∷ items) ≡ bytesOf item ++ cleanRest items
+  unfolding cleanRun
+  clean-taken e = rw (kept-in Port.Serial item items (counts-inside Role.Password Port.Serial item e), e)
+
+  clean-ends : cleanByte item ≡ false → faultyByte item ≡ true → cleanRest (item ∷ items) ≡ []
+  unfolding cleanRun
+  clean-ends e f = rw (kept-in Port.Serial item items (stops-inside Port.Serial item f), e)
+
+  clean-passed : cleanByte item ≡ false → faultyByte item ≡ false → cleanRest (item ∷ items) ≡ cleanRest items
+  clean-passed e f = passed-by Port.Serial item items cleanRun (λ i. absurd (neither item i e f))
+
 module _ (configuration : Configuration) where
   -- What the rest of a list still gives to the plain list, by stage; a session that has ended reads no more.
   abbrev rest : Stage → List Item → List ℕ
-  rest Stage.Waiting items = plainFrom configuration (pickedPort items) items
-  rest Stage.Password items = cleanToFaulty items
-  rest (Stage.Header Port.Can) items = bytesFromHeader configuration items
-  rest (Stage.Header Port.Serial) items = cleanToFaulty items
-  rest (Stage.Data Port.Can load) items = dataBytes (load .owed) items
-  rest (Stage.Data Port.Serial load) items = cleanToFaulty items
+  rest Stage.Waiting items = plainOf configuration items
+  rest Stage.Password items = cleanRest items
+  rest (Stage.Header Port.Can) items = bytesFromHeader configuration (ofPort Port.Can items)
+  rest (Stage.Header Port.Serial) items = cleanRest items
+  rest (Stage.Data Port.Can load) items = dataBytes (load .owed) (ofPort Port.Can items)
+  rest (Stage.Data Port.Serial load) items = cleanRest items
   rest (Stage.Stopped refusal) items = []
   rest (Stage.Jumped jump) items = []
 
   -- an item that does not open gives nothing, whichever port is picked
-  plain-passed : (picked : Option Port) (item : Item) (items : List Item) → opens item ≡ false
+  unopened : (picked : Option Port) (item : Item) (items : List Item) → opens item ≡ false
       → plainFrom configuration picked (item ∷ items) ≡ plainFrom configuration picked items
-  unfolding bytesFromPassword cleanBytes
-  plain-passed none item items e = refl
-  plain-passed (some Port.Can) (Item.Of (Source.Can identifier) bytes) items e = rw e
-  plain-passed (some Port.Can) (Item.Of (Source.Serial mark) bytes) items e = refl
-  plain-passed (some Port.Serial) (Item.Of (Source.Can identifier) bytes) items e = refl
-  plain-passed (some Port.Serial) (Item.Of (Source.Serial mark) bytes) items e = rw e
+  unfolding bytesFromPassword bytesFromClean
+  unopened none item items e = refl
+  unopened (some Port.Can) (Item.Of (Source.Can identifier) bytes) items e = rw e
+  unopened (some Port.Can) (Item.Of (Source.Serial mark) bytes) items e = refl
+  unopened (some Port.Serial) (Item.Of (Source.Can identifier) bytes) items e = refl
+  unopened (some Port.Serial) (Item.Of (Source.Serial mark) bytes) items e = rw e
+
+  opening-passed : (item : Item) (items : List Item) → opens item ≡ false
+      → rest Stage.Waiting (item ∷ items) ≡ rest Stage.Waiting items
+  unfolding pickedPort only
+  opening-passed item items e =
+      let picked = pickedPort items in
+      let later = only (inStream picked) items in
+      rw e
+      (by-test (λ (l : List Item). plainFrom configuration picked l ≡ plainFrom configuration picked later) (item ∷ later) later
+      (inStream picked item) (λ i. unopened picked item later e) (λ i. refl))
 
   -- the opening gives its bytes
   opening-taken : (item : Item) (items : List Item) → opens item ≡ true
       → rest Stage.Waiting (item ∷ items) ≡ bytesOf item ++ rest (Stage.Header (portOf item)) items
-  unfolding pickedPort bytesFromPassword cleanBytes
-  opening-taken (Item.Of (Source.Can identifier) bytes) items e = rw (e, e)
-  opening-taken (Item.Of (Source.Serial mark) bytes) items e = rw (e, e)
-
-  -- a faulty byte behind it ends the list
-  faulty-ends : (item : Item) (items : List Item) → cleanByte item ≡ false → faultyByte item ≡ true → cleanToFaulty (item ∷ items) ≡ []
-  unfolding cleanToFaulty
-  faulty-ends item items e f = rw (e, f)
+  unfolding pickedPort bytesFromPassword bytesFromClean
+  opening-taken (Item.Of (Source.Can identifier) bytes) items e =
+      let item = Item.Of (Source.Can identifier) bytes in
+      rw (e, kept-in Port.Can item items (counts-inside Role.Password Port.Can item e), e)
+  opening-taken (Item.Of (Source.Serial mark) bytes) items e =
+      let item = Item.Of (Source.Serial mark) bytes in
+      rw (e, kept-in Port.Serial item items (counts-inside Role.Password Port.Serial item e), e)
 
   -- a header frame, and the bytes of a header, are followed by data
   header-passed : (port : Port) (item : Item) (items : List Item) → countsAs Role.Header port item ≡ false → stopsBy port item ≡ false
       → rest (Stage.Header port) (item ∷ items) ≡ rest (Stage.Header port) items
-  unfolding bytesFromHeader cleanToFaulty
-  header-passed Port.Can item items e f = rw e
-  header-passed Port.Serial item items e f = rw (e, f)
+  unfolding bytesFromHeader
+  header-passed Port.Can item items e f = passed-by Port.Can item items (bytesFromHeader configuration) (λ i. rw e)
+  header-passed Port.Serial item items e f = clean-passed item items e f
 
   header-ends : (port : Port) (item : Item) (items : List Item) → countsAs Role.Header port item ≡ false → stopsBy port item ≡ true
       → rest (Stage.Header port) (item ∷ items) ≡ []
   header-ends Port.Can item items e f = absurd (false≢true f)
-  header-ends Port.Serial item items e f = faulty-ends item items e f
+  header-ends Port.Serial item items e f = clean-ends item items e f
 
   header-taken : (port : Port) (item : Item) (items : List Item) → countsAs Role.Header port item ≡ true
       → rest (Stage.Header port) (item ∷ items)
       ≡ bytesOf item ++ rest (Stage.Data port (loadFrom (headerRead configuration (bytesOf item)))) items
-  unfolding bytesFromHeader cleanToFaulty
-  header-taken Port.Can item items e = rw e
-  header-taken Port.Serial item items e = rw e
+  unfolding bytesFromHeader
+  header-taken Port.Can item items e = rw (kept-in Port.Can item items (counts-inside Role.Header Port.Can item e), e)
+  header-taken Port.Serial item items e = clean-taken item items e
 
   data-passed : (port : Port) (load : Load) (item : Item) (items : List Item) → countsAs (Role.Data load) port item ≡ false
       → stopsBy port item ≡ false
       → rest (Stage.Data port load) (item ∷ items) ≡ rest (Stage.Data port load) items
-  unfolding dataBytes cleanToFaulty
-  data-passed Port.Can load item items e f = rw e
-  data-passed Port.Serial load item items e f = rw (e, f)
+  unfolding dataBytes
+  data-passed Port.Can load item items e f = passed-by Port.Can item items (dataBytes (load .owed)) (λ i. rw e)
+  data-passed Port.Serial load item items e f = clean-passed item items e f
 
   data-ends : (port : Port) (load : Load) (item : Item) (items : List Item) → countsAs (Role.Data load) port item ≡ false
       → stopsBy port item ≡ true
       → rest (Stage.Data port load) (item ∷ items) ≡ []
   data-ends Port.Can load item items e f = absurd (false≢true f)
-  data-ends Port.Serial load item items e f = faulty-ends item items e f
+  data-ends Port.Serial load item items e f = clean-ends item items e f
 
   data-taken : (port : Port) (load : Load) (item : Item) (items : List Item) → countsAs (Role.Data load) port item ≡ true
       → rest (Stage.Data port load) (item ∷ items)
       ≡ bytesOf item ++ rest (Stage.Data port (advanced load (length (bytesOf item)))) items
-  unfolding dataBytes cleanToFaulty
-  data-taken Port.Can load item items e = rw e
-  data-taken Port.Serial load item items e = rw e
+  unfolding dataBytes
+  data-taken Port.Can load item items e = rw (kept-in Port.Can item items (counts-inside (Role.Data load) Port.Can item e), e)
+  data-taken Port.Serial load item items e = clean-taken item items e
 
 module _
     (configuration : Configuration) (sram plain : List ℕ) (eight : length (configuration .password) ≡ 8)
@@ -482,18 +541,18 @@ module _
 
     call-on : (stage : Stage) → countFits (session .configuration) stage (session .count) ≡ true
         → Before stage session m (item ∷ items) → After stage session m item items (reaction stage item)
-    unfolding reaction transition sramAfter pickedPort cleanToFaulty
+    unfolding reaction transition sramAfter
     call-on Stage.Waiting fine s =
-        by-hearing (After Stage.Waiting session m item items) Role.Password (portOf item) item Reaction.Ignores
+        by-hearing (After Stage.Waiting session m item items) Role.Password (portOf item) item
         (λ e. let taken = rw e at (reacted-in session item Stage.Waiting fine) in
         password-taken Stage.Waiting (portOf item) s refl (s .knows) (opening-taken configuration item items e) (taken .placed))
-        (λ e. rw e (plain-passed configuration (pickedPort items) item items e))
+        (opening-passed configuration item items)
     call-on Stage.Password fine s =
         by-hearing-opened (After Stage.Password session m item items) Role.Password Port.Serial item
         (λ e. let taken = rw e at (reacted-in session item Stage.Password fine) in
-        password-taken Stage.Password Port.Serial s refl (s .knows) (rw e) (taken .placed))
-        (λ f e. (refl, cut-off Stage.Password s fine (faulty-ends configuration item items e f) refl))
-        (λ f e. rw (e, f))
+        password-taken Stage.Password Port.Serial s refl (s .knows) (clean-taken item items e) (taken .placed))
+        (λ f e. (refl, cut-off Stage.Password s fine (clean-ends item items e f) refl))
+        (λ f e. clean-passed item items e f)
     call-on (Stage.Header port) fine s =
         let all = received session (bytesOf item) in
         let later = rest configuration (Stage.Data port (loadFrom (headerOf all))) items in
@@ -523,7 +582,7 @@ module _
 
   ended : (stage : Stage) (session : Session) (m : List ℕ) → countFits (session .configuration) stage (session .count) ≡ true
       → Before stage session m [] → Done (due stage) (ran session m [])
-  unfolding ran only pickedPort cleanToFaulty bytesFromHeader dataBytes
+  unfolding ran only pickedPort cleanRun bytesFromHeader dataBytes
   ended Stage.Waiting session m fine s = unfinished session m (cut-off Stage.Waiting s fine refl refl)
   ended Stage.Password session m fine s = unfinished session m (cut-off Stage.Password s fine refl refl)
   ended (Stage.Header Port.Can) session m fine s = unfinished session m (cut-off (Stage.Header Port.Can) s fine refl refl)
@@ -567,9 +626,9 @@ module _
 
 module _ (configuration : Configuration) (sram : List ℕ) (eight : length (configuration .password) ≡ 8) (ok : Accepted (freshSession configuration) sram) where
   pub forward : (items : List Item)
-      → Ends configuration sram (plainFrom configuration (pickedPort items) items) (ran (freshSession configuration) sram items)
+      → Ends configuration sram (plainOf configuration items) (ran (freshSession configuration) sram items)
   forward items =
-      let plain = plainFrom configuration (pickedPort items) items in
+      let plain = plainOf configuration items in
       let fresh = freshSession configuration in
       let end = run-ends configuration sram plain eight (ok .right) items fresh sram ok (record { same = refl; before = []; shape = refl; knows = (refl, refl) }) in
       record { jumps = end .made; loads = end .loads }

@@ -22,7 +22,7 @@ use Rattle.session_items.specs.Items.{Item, portOf, bytesOf}
 use Rattle.session_items.specs.Reacting.{opens, heardOpened, reaction}
 use Rattle.session_items.proofs.Laws.{by-hearing-opened, stopping-own}
 use Rattle.session_answers.specs.declared.Outcome.{Outcome}
-use Rattle.session_answers.specs.Answers.{notTaken, unchanged}
+use Rattle.session_answers.specs.Answers.{unheeded, unchanged}
 use Rattle.session_answers.proofs.Laws.{Accepted}
 use Rattle.session_fresh.specs.Fresh.{freshSession}
 use Rattle.session.specs.declared.Transition.{Transition}
@@ -108,7 +108,7 @@ module _ (port by : Port) (session : Session) (same : samePort port by ≡ true)
 abbrev pub Along : (Item → Bool) → Session → List ℕ → List Item → Type 0
 Along wanted session sram [] = Unit {0}
 Along wanted session sram (item ∷ items) =
-    (wanted item ≡ false → step session sram item ≡ unchanged (notTaken item) session sram)
+    (wanted item ≡ false → step session sram item ≡ unchanged (unheeded item) session sram)
     × Along wanted (step session sram item .session) (step session sram item .sram) items
 
 -- the next call: it takes an item that is wanted, or is stopped by it, or passes one by
@@ -191,7 +191,7 @@ pub record Alike (wanted : Item → Bool) (session : Session) (sram : List ℕ) 
 
 alike-next : (wanted : Item → Bool) (session : Session) (sram : List ℕ) (item : Item) (items : List Item) (b : Bool)
     → wanted item ≡ b
-    → (wanted item ≡ false → step session sram item ≡ unchanged (notTaken item) session sram)
+    → (wanted item ≡ false → step session sram item ≡ unchanged (unheeded item) session sram)
     → Alike wanted (step session sram item .session) (step session sram item .sram) items
     → Alike wanted session sram (item ∷ items)
 unfolding ran only
@@ -225,7 +225,7 @@ pub passed-at : (wanted : Item → Bool) (session : Session) (sram : List ℕ) (
     → Along wanted session sram (before ++ item ∷ later)
     → wanted item ≡ false
     → let sofar : Run = ran session sram before in
-    step (sofar .session) (sofar .sram) item ≡ unchanged (notTaken item) (sofar .session) (sofar .sram)
+    step (sofar .session) (sofar .sram) item ≡ unchanged (unheeded item) (sofar .session) (sofar .sram)
 unfolding ran
 passed-at wanted session sram [] item later h e = h .0 e
 passed-at wanted session sram (first ∷ before) item later h e =

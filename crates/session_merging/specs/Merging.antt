@@ -18,9 +18,9 @@ use Rattle.session_state.specs.Sound.{sound}
 use Rattle.header.specs.declared.Header.{Header}
 use Rattle.header.specs.Reading.{headerRead, fits}
 use Rattle.session_items.specs.Items.{Item, wellFormed, portOf, bytesOf}
-use Rattle.session_items.specs.Reacting.{eightUnder, dataFitting, cleanByte, faultyByte, opens}
+use Rattle.session_items.specs.Reacting.{eightUnder, dataFitting, cleanByte, opens}
 use Rattle.session_answers.specs.declared.Outcome.{Outcome}
-use Rattle.session_answers.specs.Answers.{outcomeNumber, withoutEcho, notTaken, unchanged}
+use Rattle.session_answers.specs.Answers.{outcomeNumber, withoutEcho, unheeded, unchanged}
 use Rattle.session_fresh.specs.Fresh.{freshSession}
 use Rattle.session.specs.Rules.{step}
 use Rattle.session.specs.Running.{Call, Run, ran}
@@ -49,15 +49,14 @@ abbrev pub streamOf : List Item → List Item
 streamOf items = only (inStream (pickedPort items)) items
 
 -- The plain list, of the stream's items alone. "Serial: take the clean bytes in order"; "a faulty byte after the first clean one ends the
--- plain list" (02, E2).
-unfoldable pub cleanToFaulty : List Item → List ℕ
-cleanToFaulty [] = []
-cleanToFaulty (item ∷ items) =
-    cond (cleanByte item) (bytesOf item ++ cleanToFaulty items) (cond (faultyByte item) [] (cleanToFaulty items))
+-- plain list" (02, E2): so it goes from the first clean byte to the first behind it that is not clean.
+unfoldable pub cleanRun : List Item → List ℕ
+cleanRun [] = []
+cleanRun (item ∷ items) = cond (cleanByte item) (bytesOf item ++ cleanRun items) []
 
-unfoldable pub cleanBytes : List Item → List ℕ
-cleanBytes [] = []
-cleanBytes (item ∷ items) = cond (cleanByte item) (bytesOf item ++ cleanToFaulty items) (cleanBytes items)
+unfoldable pub bytesFromClean : List Item → List ℕ
+bytesFromClean [] = []
+bytesFromClean (item ∷ items) = cond (cleanByte item) (bytesOf item ++ cleanRun items) (bytesFromClean items)
 
 -- CAN: "take the first opening frame, the first 0x012 of 8 bytes after it, then each later 0x013 that fits what is owed, which is here the
 -- announced count less the bytes of the 0x013 frames taken before it"
@@ -81,7 +80,7 @@ bytesFromPassword configuration (item ∷ items) =
 abbrev pub plainFrom : Configuration → Option Port → List Item → List ℕ
 plainFrom configuration none items = []
 plainFrom configuration (some Port.Can) items = bytesFromPassword configuration items
-plainFrom configuration (some Port.Serial) items = cleanBytes items
+plainFrom configuration (some Port.Serial) items = bytesFromClean items
 
 abbrev pub plainOf : Configuration → List Item → List ℕ
 plainOf configuration items = plainFrom configuration (pickedPort items) (streamOf items)
@@ -113,7 +112,7 @@ jumpsIn calls =
 
 -- "An item outside the stream gets 6 if that is due and otherwise 1", and no echo
 abbrev pub callOutside : Item → Call
-callOutside item = record { item = item; answer = withoutEcho (notTaken item) }
+callOutside item = record { item = item; answer = withoutEcho (unheeded item) }
 
 -- The claim, where `inside` tells the stream's items, `plain` is the stream read as a plain list, and `whole` and `alone` are the runs of the list and
 -- of the stream, from the same fresh session and the same SRAM
@@ -131,7 +130,7 @@ pub record Merged
   -- "No other item changes .. anything; with no opening, none does.", wherever it stands in the list
   pub unmoved : (before : List Item) (item : Item) (later : List Item) → items ≡ before ++ item ∷ later → inside item ≡ false
       → let sofar : Run = ran (freshSession configuration) sram before in
-      step (sofar .session) (sofar .sram) item ≡ unchanged (notTaken item) (sofar .session) (sofar .sram)
+      step (sofar .session) (sofar .sram) item ≡ unchanged (unheeded item) (sofar .session) (sofar .sram)
   -- "The head jumps exactly when that stream, read as a plain list, begins with ..": then one call gets 5, and otherwise none
   pub jumps : jumpsIn (whole .calls)
       ≡ cond (complete configuration plain) (Outcome.Jumps (plainJump configuration plain) ∷ []) []

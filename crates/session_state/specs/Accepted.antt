@@ -1,10 +1,10 @@
--- The VLE bit of the header that a session has accepted (01, "MMU rows").
+-- The VLE bit of the header that a session has accepted (01, "MMU rows"; 02, E2).
 use mathlib.Core.Bool.{Bool, false}
 use Rattle.session_state.specs.declared.Refusal.{Refusal}
 use Rattle.session_state.specs.declared.Stage.{Stage}
 
--- It is that of its load, begun or done, or ended by a faulty byte (02, E2): a stop does not undo what was accepted. Where no header was
--- accepted it is clear.
+-- It is that of its load, begun, done, or ended by a faulty byte: a stop does not undo what was accepted. With no header accepted there is none
+-- set.
 abbrev pub acceptedVle : Stage → Bool
 acceptedVle Stage.Waiting = false
 acceptedVle Stage.Password = false

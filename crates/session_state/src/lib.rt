@@ -27,7 +27,7 @@ pub struct Jump {
 }
 
 // What stopped a session: a password that did not pass, a length of 0, a load not wholly in SRAM, or a faulty byte, with the VLE bit of the
-// header that had been accepted before it.
+// header that had been accepted before it, which is clear if none had.
 pub enum Refusal {
     Password,
     Length,
@@ -85,7 +85,7 @@ pub fn is_sound(session: Session) -> bool
     }
 }
 
-// The VLE bit of the header that was accepted.
+// The VLE bit of the header that was accepted, clear if none was.
 pub fn accepted_vle(stage: Stage) -> bool
     ensures { λ r. ⌜ r ≡ acceptedVle stage ⌝ }
 {

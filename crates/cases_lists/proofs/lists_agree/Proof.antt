@@ -9,7 +9,7 @@ use Rattle.session_items.specs.Reacting.{reaction}
 use Rattle.session_answers.specs.Answers.{precheck}
 use Rattle.session.specs.Rules.{step, takenAs, transition, passwordReceived, checked, headerReceived, loaded, sramAfter}
 use Rattle.session.specs.Running.{ran}
-use Rattle.session_merging.specs.Merging.{pickedPort, only, cleanToFaulty, cleanBytes, dataBytes, bytesFromHeader, bytesFromPassword, complete}
+use Rattle.session_merging.specs.Merging.{pickedPort, only, cleanRun, bytesFromClean, dataBytes, bytesFromHeader, bytesFromPassword, complete}
 use Rattle.cases_lists.specs.Lists.{listTable}
 use Rattle.cases_lists.proofs.lists_agree.Statement.{statement}
 use Rattle.cases_lists.proofs.lists_agree.Tie as tie
@@ -17,8 +17,8 @@ use Rattle.cases_lists.proofs.lists_agree.Tie as tie
 returns : tie.Need-returns
 unfolding
     listTable same passes size base inRange aligned stored sound precheck step reaction takenAs transition passwordReceived checked headerReceived validated loaded sramAfter
-    ran pickedPort only cleanToFaulty cleanBytes dataBytes bytesFromHeader bytesFromPassword complete
-returns c = (refl, (refl, (refl, (refl, (refl, (refl, (refl, (refl, (refl, (refl, (refl, (refl, (refl, (refl, (refl, (refl, (refl, (refl, (refl, (refl, (refl, (refl, (refl, (refl, (refl, (refl, tt))))))))))))))))))))))))))
+    ran pickedPort only cleanRun bytesFromClean dataBytes bytesFromHeader bytesFromPassword complete
+returns c = (refl, (refl, (refl, (refl, (refl, (refl, (refl, (refl, (refl, (refl, (refl, (refl, (refl, (refl, (refl, (refl, (refl, (refl, (refl, (refl, (refl, (refl, (refl, (refl, (refl, (refl, (refl, (refl, (refl, tt)))))))))))))))))))))))))))))
 
 pub lists-agree-spec : {M : Type 1} → statement M
 lists-agree-spec = tie.close (tie.spec returns)
