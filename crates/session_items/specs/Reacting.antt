@@ -53,7 +53,8 @@ stopsBy Port.Serial item = faultyByte item
 abbrev pub heard : Role → Port → Item → Reaction
 heard role port item = cond (countsAs role port item) (Reaction.Takes role port) Reaction.Ignores
 
--- and behind it; "Other frames are ignored", and "The other port's items are ignored from then on."
+-- and behind it, where what does not count may stop the session; if it does not: "Other frames are ignored", "The other port's items are
+-- ignored from then on."
 abbrev pub heardOpened : Role → Port → Item → Reaction
 heardOpened role port item =
     cond (countsAs role port item) (Reaction.Takes role port) (cond (stopsBy port item) Reaction.Stops Reaction.Ignores)
