@@ -29,7 +29,7 @@ use Rattle.session_answers.specs.declared.Outcome.{Outcome}
 use Rattle.session_answers.specs.Answers.{outcomeNumber, precheck, underPort, echoUnder, noEcho, echoIdentifier, unchanged}
 use Rattle.session.specs.declared.Transition.{Transition}
 use Rattle.session.specs.Rules.{received, enters, stops, holds, checked, begun, loaded, jumpOf, advanced, passwordReceived, headerReceived, transition, sramAfter, takenAs, step}
-use Rattle.cases_answers.specs.Rows.{wrongPassword, lengthZero, notInSram, lastStored, takenNumber, serialGoing, bySerial, untakenNumber, numberDue, changesNothing, sendsEcho, echoedUnder, stageAfter}
+use Rattle.cases_answers.specs.Rows.{wrongPassword, lengthZero, notInSram, lastStored, takenNumber, serialGoing, bySerial, untakenNumber, numberDue, changesNothing, sendsEcho, echoedUnder, stageAfter, headerVle, endedSession}
 
 module _ (session : Session) where
   password-number : (port : Port) (all : List ℕ) (a b : Bool) → eqb (length all) 8 ≡ a
@@ -197,6 +197,15 @@ row-by (Stage.Data Port.Serial load) item formed = row-serial (Stage.Data Port.S
 row-by (Stage.Stopped refusal) item formed = refl
 row-by (Stage.Jumped jump) item formed = refl
 
+-- the bit of the header accepted while serial is going is that of the rules
+same-vle : (stage : Stage) → serialGoing stage ≡ true → acceptedVle stage ≡ headerVle stage
+same-vle Stage.Waiting going = refl
+same-vle Stage.Password going = refl
+same-vle (Stage.Header port) going = refl
+same-vle (Stage.Data port load) going = refl
+same-vle (Stage.Stopped refusal) going = absurd (false≢true going)
+same-vle (Stage.Jumped jump) going = absurd (false≢true going)
+
 module _ (session : Session) (sram : List ℕ) (item : Item) where
   -- the tests of the table, in their order
   abbrev pub Tested : Bool → Bool → Bool → Reaction → Type 0
@@ -284,16 +293,26 @@ module _ (session : Session) (sram : List ℕ) (item : Item) where
   configured true false c r t = rw (t .0, t .1)
   configured false b c r t = rw (t .0)
 
-  pub accepted : (a b c : Bool) (r : Reaction) → Tested a b c r → numberDue session sram item ≡ 12
-      → acceptedVle (step session sram item .session .stage) ≡ acceptedVle (session .stage)
+  pub ended : (a b c : Bool) (r : Reaction) → Tested a b c r → numberDue session sram item ≡ 12
+      → step session sram item .session ≡ endedSession session
   unfolding step precheck
-  accepted true true true (Reaction.Takes role port) t e =
+  ended true true true (Reaction.Takes role port) t e =
       absurd (not-twelve session role (bytesOf item) (rw (t .0, t .1, t .2, t .3) at e))
-  accepted true true true Reaction.Ignores t e = rw (t .0, t .1, t .2, t .3)
-  accepted true true true Reaction.Stops t e = rw (t .0, t .1, t .2, t .3)
-  accepted true true false r t e = rw (t .0, t .1, t .2)
-  accepted true false c r t e = rw (t .0, t .1)
-  accepted false b c r t e = rw (t .0)
+  ended true true true Reaction.Stops t e =
+      let going = and-eq-true-iff (serialGoing (session .stage)) (bySerial item) .0 (row Reaction.Stops (t .2) (t .3)) .0 in
+      rw (t .0, t .1, t .2, t .3, same-vle (session .stage) going)
+  ended true true true Reaction.Ignores t e =
+      let other : _≡_ {A = ℕ} 1 12 = rw (t .0, t .1, t .2, t .3, row Reaction.Ignores (t .2) (t .3)) at e in
+      absurd (omega (arith, other))
+  ended true true false r t e =
+      let other : _≡_ {A = ℕ} 6 12 = rw (t .0, t .1, t .2) at e in
+      absurd (omega (arith, other))
+  ended true false c r t e =
+      let other : _≡_ {A = ℕ} 8 12 = rw (t .0, t .1) at e in
+      absurd (omega (arith, other))
+  ended false b c r t e =
+      let other : _≡_ {A = ℕ} 7 12 = rw (t .0) at e in
+      absurd (omega (arith, other))
 
   -- 5 is given only for the last byte of a load
   not-five : (stage : Stage) → untakenNumber stage item ≡ 5 → ⊥

@@ -1,18 +1,19 @@
 -- The rows of 01's table "What the head says back" for one item, with the one that 02, E2 adds, each by its own words, and the claim that the
--- rules give them. Which items are taken, and in which role, they share with the rules (`session_items: Reacting.reaction`).
+-- rules give them. With the rules they share which items are taken, and in which role (`session_items: Reacting.reaction`), the bytes received, when a session
+-- is sound, and what a password or a header is.
 use Prim.Native.Nat.{ℕ, _-_}
 use mathlib.Core.Path.{_≡_}
 use mathlib.Core.List.{List}
 use mathlib.Core.Bool.{Bool, true, false, cond, not, _&&_, _||_}
 use lib.Dec.{eqb}
-use lib.ListN.{length}
+use lib.ListN.{length, replicate}
 use Rattle.password.specs.Passing.{passes}
 use Rattle.sram.specs.Region.{rightSize}
 use Rattle.session_state.specs.declared.Load.{Load}
 use Rattle.session_state.specs.declared.Port.{Port}
+use Rattle.session_state.specs.declared.Refusal.{Refusal}
 use Rattle.session_state.specs.declared.Session.{Session}
 use Rattle.session_state.specs.declared.Stage.{Stage}
-use Rattle.session_state.specs.Accepted.{acceptedVle}
 use Rattle.session_state.specs.Sound.{sound}
 use Rattle.header.specs.Reading.{headerRead, announcesNone, within}
 use Rattle.session_items.specs.declared.Reaction.{Reaction}
@@ -106,8 +107,26 @@ stageAfter (Outcome.Stops refusal) stage = Stage.Stopped refusal
 stageAfter (Outcome.Jumps jump) stage = Stage.Jumped jump
 stageAfter (Outcome.Refused fault) stage = stage
 
+-- the session that 12 leaves: stopped, with nothing held, and of the header that was accepted its VLE bit
+abbrev pub headerVle : Stage → Bool
+headerVle Stage.Waiting = false
+headerVle Stage.Password = false
+headerVle (Stage.Header port) = false
+headerVle (Stage.Data port load) = load .vle
+headerVle (Stage.Stopped refusal) = false
+headerVle (Stage.Jumped jump) = false
+
+abbrev pub endedSession : Session → Session
+endedSession session =
+    record {
+      configuration = session .configuration;
+      stage = Stage.Stopped (Refusal.FaultyByte (headerVle (session .stage)));
+      held = replicate 8 0;
+      count = 0;
+    }
+
 -- "Each is given exactly in its row's case. Only 0 and 5 may change SRAM.", and of what the rows return and leave: what changes nothing, the
--- echoes, the jump, the stages of 2 to 5 and 12, and the header that stays accepted with 12; what the boot choice fixed no item changes
+-- echoes, the jump, the stages of 2 to 5 and 12, and the session of 12; what the boot choice fixed no item changes
 pub record RowsHold : Type 0 where
   pub exactly : (session : Session) (sram : List ℕ) (item : Item)
       → step session sram item .number ≡ numberDue session sram item
@@ -130,6 +149,5 @@ pub record RowsHold : Type 0 where
       ≡ step session sram item .session .stage
   pub configured : (session : Session) (sram : List ℕ) (item : Item)
       → step session sram item .session .configuration ≡ session .configuration
-  -- 12: an accepted header stays so
-  pub stays-accepted : (session : Session) (sram : List ℕ) (item : Item) → numberDue session sram item ≡ 12
-      → acceptedVle (step session sram item .session .stage) ≡ acceptedVle (session .stage)
+  pub ended : (session : Session) (sram : List ℕ) (item : Item) → numberDue session sram item ≡ 12
+      → step session sram item .session ≡ endedSession session

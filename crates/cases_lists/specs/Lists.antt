@@ -9,6 +9,7 @@ use Rattle.boot_table.specs.Table.{publicPassword}
 use Rattle.session_state.specs.declared.Refusal.{Refusal}
 use Rattle.session_state.specs.declared.Session.{Session}
 use Rattle.session_state.specs.declared.Stage.{Stage}
+use Rattle.session_state.specs.Accepted.{acceptedVle}
 use Rattle.session_items.specs.declared.Source.{Source}
 use Rattle.session_items.specs.Items.{Item}
 use Rattle.session_answers.specs.declared.Outcome.{Outcome}
@@ -69,19 +70,19 @@ jumping =
 abbrev cleanAll : List ℕ → List Item
 cleanAll bytes = map clean bytes
 
--- start 0x40000004, VLE, 2 bytes
-abbrev shortHeader : List ℕ
-shortHeader = 0x40 ∷ 0x00 ∷ 0x00 ∷ 0x04 ∷ 0x80 ∷ 0x00 ∷ 0x00 ∷ 0x02 ∷ []
+-- start 0x40000004, 2 bytes, with VLE (0x80) or without (0x00)
+abbrev shortHeader : ℕ → List ℕ
+shortHeader flag = 0x40 ∷ 0x00 ∷ 0x00 ∷ 0x04 ∷ flag ∷ 0x00 ∷ 0x00 ∷ 0x02 ∷ []
 
 -- the rest of the public password, and that header
-abbrev opened : List Item
-opened = cleanAll (0xED ∷ 0xFA ∷ 0xCE ∷ 0xCA ∷ 0xFE ∷ 0xBE ∷ 0xEF ∷ []) ++ cleanAll shortHeader
+abbrev opened : ℕ → List Item
+opened flag = cleanAll (0xED ∷ 0xFA ∷ 0xCE ∷ 0xCA ∷ 0xFE ∷ 0xBE ∷ 0xEF ∷ []) ++ cleanAll (shortHeader flag)
 
 -- by serial, up to the first of the 2 bytes announced
 abbrev begun : List Item
 begun =
     (faulty 0xFE ∷ frame 0x013 (0x77 ∷ []) ∷ clean 0xFE ∷ frame 0x011 publicPassword ∷ [])
-    ++ opened
+    ++ opened 0x80
     ++ (clean 0xAA ∷ frame 0x011 (replicate 9 0) ∷ [])
 
 -- the second comes faulty, then clean
@@ -93,8 +94,16 @@ abbrev finished : List Item
 finished = begun ++ (clean 0xBB ∷ faulty 0xCC ∷ [])
 
 -- a faulty byte behind so many clean ones
-abbrev cutBehind : ℕ → List Item
-cutBehind count = take count (clean 0xFE ∷ opened) ++ (faulty 0xED ∷ clean 0xED ∷ [])
+abbrev cutBehind : ℕ → ℕ → List Item
+cutBehind flag count = take count (clean 0xFE ∷ opened flag) ++ (faulty 0xED ∷ clean 0xED ∷ [])
+
+-- a password that does not pass
+abbrev wrong : List Item
+wrong = frame 0x011 (replicate 8 0x11) ∷ []
+
+-- the VLE bit of the header accepted
+abbrev vleAfter : List Item → Bool
+vleAfter items = acceptedVle (runOf items .session .stage)
 
 -- no opening: a faulty byte, and frames that open nothing
 abbrev silent : List Item
@@ -144,25 +153,30 @@ listTable =
     ∷ trial (echoesOf (runOf (take 5 lacking))) (nothing ∷ nothing ∷ (0 ∷ 0xFE ∷ []) ∷ nothing ∷ (0 ∷ 0xED ∷ []) ∷ [])
     ∷ trial (drop 19 (echoesOf (runOf lacking))) ((0 ∷ 0xAA ∷ []) ∷ nothing ∷ nothing ∷ nothing ∷ nothing ∷ [])
     ∷ trial (jumpsIn (runOf lacking .calls)) []
-    ∷ trial (plainOf public lacking) (publicPassword ++ shortHeader ++ (0xAA ∷ []))
+    ∷ trial (plainOf public lacking) (publicPassword ++ shortHeader 0x80 ++ (0xAA ∷ []))
     ∷ trial (complete public (plainOf public lacking)) false
     ∷ trial (runOf lacking .session) (stoppedWith true)
     ∷ trial (runOf lacking .sram) (replicate 4 0xEE ++ (0xAA ∷ []) ++ replicate 65531 0xEE)
     ∷ trial (streamOf lacking)
     ((faulty 0xFE ∷ clean 0xFE ∷ [])
-    ++ opened
+    ++ opened 0x80
     ++ (clean 0xAA ∷ faulty 0xBB ∷ clean 0xBB ∷ faulty 0xCC ∷ []))
     ∷ trial (jumpsIn (runOf finished .calls)) (Outcome.Jumps (record { start = record { 0 = 0x40000004 }; vle = true }) ∷ [])
     ∷ trial (numbersOf (runOf finished)) ((1 ∷ 1 ∷ 0 ∷ 1 ∷ []) ++ replicate 16 0 ++ (6 ∷ 5 ∷ 1 ∷ []))
-    ∷ trial (plainOf public finished) (publicPassword ++ shortHeader ++ (0xAA ∷ 0xBB ∷ []))
+    ∷ trial (plainOf public finished) (publicPassword ++ shortHeader 0x80 ++ (0xAA ∷ 0xBB ∷ []))
     ∷ trial (runOf finished .sram) (replicate 4 0xEE ++ (0xAA ∷ 0xBB ∷ []) ++ replicate 65530 0xEE)
-    -- in the password, and before and in the header, of which nothing is accepted yet
-    ∷ trial (numbersOf (runOf (cutBehind 7))) (replicate 7 0 ++ (12 ∷ 1 ∷ []))
-    ∷ trial (runOf (cutBehind 7) .session) (stoppedWith false)
-    ∷ trial (numbersOf (runOf (cutBehind 8))) (replicate 8 0 ++ (12 ∷ 1 ∷ []))
-    ∷ trial (runOf (cutBehind 8) .session) (stoppedWith false)
-    ∷ trial (numbersOf (runOf (cutBehind 15))) (replicate 15 0 ++ (12 ∷ 1 ∷ []))
-    ∷ trial (runOf (cutBehind 15) .session) (stoppedWith false)
+    -- in the password, before and in the header, of which nothing is accepted yet, and in the data
+    ∷ trial (numbersOf (runOf (cutBehind 0x80 7))) (replicate 7 0 ++ (12 ∷ 1 ∷ []))
+    ∷ trial (runOf (cutBehind 0x80 7) .session) (stoppedWith false)
+    ∷ trial (numbersOf (runOf (cutBehind 0x80 8))) (replicate 8 0 ++ (12 ∷ 1 ∷ []))
+    ∷ trial (runOf (cutBehind 0x80 8) .session) (stoppedWith false)
+    ∷ trial (numbersOf (runOf (cutBehind 0x80 15))) (replicate 15 0 ++ (12 ∷ 1 ∷ []))
+    ∷ trial (runOf (cutBehind 0x80 15) .session) (stoppedWith false)
+    ∷ trial (runOf (cutBehind 0x80 16) .session) (stoppedWith true)
+    ∷ trial (runOf (cutBehind 0x00 16) .session) (stoppedWith false)
+    -- "where no header was accepted it is clear"; in the data stage, ended and jumped it is the header's
+    ∷ trial (map vleAfter (silent ∷ wrong ∷ cutBehind 0x80 15 ∷ cutBehind 0x00 16 ∷ [])) (replicate 4 false)
+    ∷ trial (map vleAfter (begun ∷ lacking ∷ finished ∷ jumping ∷ [])) (replicate 4 true)
     ∷ trial (numbersOf (runOf silent)) (1 ∷ 1 ∷ 1 ∷ [])
     ∷ trial (streamOf silent) []
     ∷ trial (pickedPort silent) none

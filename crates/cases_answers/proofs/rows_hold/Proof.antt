@@ -9,7 +9,7 @@ use Rattle.session_state.specs.Sound.{sound}
 use Rattle.session_items.specs.declared.Reaction.{Reaction}
 use Rattle.session_items.specs.Items.{Item, wellFormed}
 use Rattle.session_items.specs.Reacting.{reaction}
-use Rattle.cases_answers.proofs.Answering.{Tested, exactly, kept, unmoved, echoed, silent, jumps, leaves, configured, accepted}
+use Rattle.cases_answers.proofs.Answering.{Tested, exactly, kept, unmoved, echoed, silent, jumps, leaves, configured, ended}
 use Rattle.cases_answers.proofs.rows_hold.Statement.{statement}
 use Rattle.cases_answers.proofs.rows_hold.Tie as tie
 
@@ -32,7 +32,7 @@ returns c =
           jumps session sram item port load s _ _ _ _ _ _ refl refl refl refl refl refl;
       leaves = λ session sram item. by-tests session sram item (leaves session sram item);
       configured = λ session sram item. by-tests session sram item (configured session sram item);
-      stays-accepted = λ session sram item. by-tests session sram item (accepted session sram item);
+      ended = λ session sram item. by-tests session sram item (ended session sram item);
     }
 
 pub rows-hold-spec : {M : Type 1} → statement M

@@ -18,7 +18,7 @@ returns : tie.Need-returns
 unfolding
     listTable same passes size base inRange aligned stored sound precheck step reaction takenAs transition passwordReceived checked headerReceived validated loaded sramAfter
     ran pickedPort only cleanRun bytesFromClean dataBytes bytesFromHeader bytesFromPassword complete
-returns c = (refl, (refl, (refl, (refl, (refl, (refl, (refl, (refl, (refl, (refl, (refl, (refl, (refl, (refl, (refl, (refl, (refl, (refl, (refl, (refl, (refl, (refl, (refl, (refl, (refl, (refl, (refl, (refl, (refl, tt)))))))))))))))))))))))))))))
+returns c = (refl, (refl, (refl, (refl, (refl, (refl, (refl, (refl, (refl, (refl, (refl, (refl, (refl, (refl, (refl, (refl, (refl, (refl, (refl, (refl, (refl, (refl, (refl, (refl, (refl, (refl, (refl, (refl, (refl, (refl, (refl, (refl, (refl, tt)))))))))))))))))))))))))))))))))
 
 pub lists-agree-spec : {M : Type 1} → statement M
 lists-agree-spec = tie.close (tie.spec returns)
