@@ -231,8 +231,8 @@ pub fn trials() -> Vec<Exchange> {
 }
 
 /// 02, E2: a load of 2 bytes, with VLE and without, in which a faulty byte comes behind each
-/// number of its items, and another item behind that. By CAN it is ignored wherever it
-/// comes; by serial before the opening and behind the jump.
+/// number of its items, and another one last. By CAN it is ignored wherever it comes; by
+/// serial before the opening and behind the jump.
 fn faulty_bytes() -> Vec<Exchange> {
     let mut exchanges = Vec::new();
     for (port, vle) in [(CAN, 0), (CAN, 1), (SERIAL, 0), (SERIAL, 1)] {
