@@ -27,8 +27,8 @@ use Rattle.session_items.specs.declared.Reaction.{Reaction}
 use Rattle.session_items.specs.declared.Role.{Role}
 use Rattle.session_items.specs.declared.Source.{Source}
 use Rattle.session_items.specs.Items.{Item, wellFormed, portOf, bytesOf}
-use Rattle.session_items.specs.Reacting.{countsAs, reaction}
-use Rattle.session_items.proofs.Laws.{by-hearing, by-hearing-opened, EightBy, DataBy, counted, stopping-own, serial-not-can}
+use Rattle.session_items.specs.Reacting.{countsAs, heardOpened, reaction}
+use Rattle.session_items.proofs.Laws.{by-hearing, by-hearing-opened, EightBy, DataBy, Sized, counted, stopping-own, serial-not-can}
 use Rattle.session_answers.specs.declared.Fault.{Fault}
 use Rattle.session_answers.specs.declared.Outcome.{Outcome}
 use Rattle.session_answers.specs.declared.Prechecked.{Prechecked}
@@ -81,6 +81,14 @@ module _ (session : Session) (item : Item) where
       let c = counted role port item e in
       record { formed = c .formed; own = c .own; placed = placed }
 
+  -- behind the opening
+  reacted-opened : (role : Role) (port : Port)
+      → (Sized role port (length (bytesOf item)) → Placed role port session (length (bytesOf item)))
+      → Reacted session item (heardOpened role port item)
+  reacted-opened role port placed =
+      by-hearing-opened (Reacted session item) role port item (λ e. taken-as role port e (placed (counted role port item e .sized)))
+      (λ f e. stopping-own port item f .0) (λ f e. tt)
+
   pub reacted-in : (stage : Stage) → countFits (session .configuration) stage (session .count) ≡ true
       → Reacted session item (reaction stage item)
   unfolding reaction
@@ -93,38 +101,20 @@ module _ (session : Session) (item : Item) where
       (λ e. tt)
   reacted-in Stage.Password s =
       let few = leb-true (session .count) 7 (and-eq-true-iff (leb 1 (session .count)) (leb (session .count) 7) .0 s .1) in
-      by-hearing-opened (Reacted session item) Role.Password Port.Serial item
-      (λ e. taken-as Role.Password Port.Serial e
-      (gathered Port.Serial session (length (bytesOf item)) (counted Role.Password Port.Serial item e .sized) few
-      (λ h. absurd (serial-not-can h))))
-      (λ f e. stopping-own Port.Serial item f .0)
-      (λ f e. tt)
+      reacted-opened Role.Password Port.Serial
+      (λ n. gathered Port.Serial session (length (bytesOf item)) n few (λ h. absurd (serial-not-can h)))
   reacted-in (Stage.Header Port.Can) s =
       let none = eqb-true (session .count) 0 s in
-      by-hearing-opened (Reacted session item) Role.Header Port.Can item
-      (λ e. taken-as Role.Header Port.Can e
-      (gathered Port.Can session (length (bytesOf item)) (counted Role.Header Port.Can item e .sized) (omega arith) (λ h. none)))
-      (λ f e. stopping-own Port.Can item f .0)
-      (λ f e. tt)
+      reacted-opened Role.Header Port.Can (λ n. gathered Port.Can session (length (bytesOf item)) n (omega arith) (λ h. none))
   reacted-in (Stage.Header Port.Serial) s =
-      by-hearing-opened (Reacted session item) Role.Header Port.Serial item
-      (λ e. taken-as Role.Header Port.Serial e
-      (gathered Port.Serial session (length (bytesOf item)) (counted Role.Header Port.Serial item e .sized)
-      (leb-true (session .count) 7 s) (λ h. absurd (serial-not-can h))))
-      (λ f e. stopping-own Port.Serial item f .0)
-      (λ f e. tt)
+      reacted-opened Role.Header Port.Serial
+      (λ n. gathered Port.Serial session (length (bytesOf item)) n (leb-true (session .count) 7 s) (λ h. absurd (serial-not-can h)))
   reacted-in (Stage.Data port load) s =
       let fits = loadFits (session .configuration) load in
       let both = and-eq-true-iff (eqb (session .count) 0) fits .0 s in
       let some = load-fits (session .configuration) load (both .1) .some-owed in
-      by-hearing-opened (Reacted session item) (Role.Data load) port item
-      (λ e. taken-as (Role.Data load) port e (
-        eqb-true (session .count) 0 (both .0),
-        both .1,
-        owed-enough port load (length (bytesOf item)) (counted (Role.Data load) port item e .sized) some,
-      ))
-      (λ f e. stopping-own port item f .0)
-      (λ f e. tt)
+      reacted-opened (Role.Data load) port
+      (λ n. (eqb-true (session .count) 0 (both .0), both .1, owed-enough port load (length (bytesOf item)) n some))
   reacted-in (Stage.Stopped refusal) s = tt
   reacted-in (Stage.Jumped jump) s = tt
 

@@ -3,8 +3,8 @@ use mathlib.Core.Bool.{Bool, false}
 use Rattle.session_state.specs.declared.Refusal.{Refusal}
 use Rattle.session_state.specs.declared.Stage.{Stage}
 
--- It is that of its load, begun, done, or ended by a faulty byte: a stop does not undo what was accepted. With no header accepted there is none
--- set.
+-- It is that of its load, begun, done, or ended by a faulty byte: a stop does not undo what was accepted. "where no header was accepted it is
+-- clear"
 abbrev pub acceptedVle : Stage → Bool
 acceptedVle Stage.Waiting = false
 acceptedVle Stage.Password = false
