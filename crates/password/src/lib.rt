@@ -15,24 +15,26 @@ fn is_legal(password: [u8; 8]) -> bool
     ensures { λ r. ⌜ r ≡ legal password ⌝ }
 {
     let bytes = &password[..];
-    is_allowed(octets::half(bytes, 0))
-        & is_allowed(octets::half(bytes, 2))
-        & is_allowed(octets::half(bytes, 4))
-        & is_allowed(octets::half(bytes, 6))
+    let mut allowed = true;
+    let mut i: usize = 0;
+    while i < 4 {
+        allowed = allowed & is_allowed(octets::half(bytes, 2 * i));
+        i = i + 1;
+    }
+    allowed
 }
 
-// Whether two passwords have the same bytes.
+// Whether two passwords have the same bytes. All 8 are read whatever they hold, so that the time taken does not tell how many are equal.
 fn is_same(a: [u8; 8], b: [u8; 8]) -> bool
     ensures { λ r. ⌜ r ≡ same a b ⌝ }
 {
+    let mut differences: u8 = 0;
     let mut i: usize = 0;
     while i < 8 {
-        if a[i] != b[i] {
-            return false;
-        }
+        differences = differences | (a[i] ^ b[i]);
         i = i + 1;
     }
-    true
+    differences == 0
 }
 
 // Whether a received password is legal and equal to the selected one.

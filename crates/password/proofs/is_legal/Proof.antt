@@ -1,62 +1,63 @@
--- `password::is_legal` meets its contract: each call tells of one half word.
+-- `password::is_legal` meets its contract: after i half words, those are allowed or not.
+use Prim.Native.Nat.{_≤_, _-_}
+use native.Mathlib.Omega.{arith}
+use native.Mathlib.Numerals.{add-one}
+use mathlib.Core.Path.{_≡_, refl, ap, _∙_}
 use borrow.Author.Needs.{needs}
+use Rattle.password.proofs.Gathering.{allowedUpTo}
 use Rattle.password.proofs.is_legal.Statement.{statement}
 use Rattle.password.proofs.is_legal.Tie as tie
 
-slice-aggregate-bytes : tie.Need-slice-aggregate-bytes
+abbrev Inv-loop : tie.InvT-loop
+Inv-loop bytes allowed₀ i₀ allowed i = (i ≤ 4) × (allowed ≡ allowedUpTo bytes i)
+
+abbrev μ-loop : tie.MeasureT-loop
+μ-loop bytes allowed₀ i₀ allowed i = 4 - i
+
+slice-aggregate-bytes : tie.Need-slice-aggregate-bytes Inv-loop μ-loop
 slice-aggregate-bytes c = search needs
 
-half-requires : tie.Need-half-requires
+loop-holds : tie.Need-loop-holds Inv-loop μ-loop
+loop-holds c = (search needs, refl)
+
+mul-half : tie.Need-mul-half Inv-loop μ-loop
+mul-half c = omega arith
+
+half-requires : tie.Need-half-requires Inv-loop μ-loop
 half-requires c κs = search needs
 
-is-allowed-requires : tie.Need-is-allowed-requires
+is-allowed-requires : tie.Need-is-allowed-requires Inv-loop μ-loop
 is-allowed-requires c κs = search needs
 
-half-requires-2 : tie.Need-half-requires-2
-half-requires-2 c κs = search needs
+add-i : tie.Need-add-i Inv-loop μ-loop
+add-i c = omega arith
 
-is-allowed-requires-2 : tie.Need-is-allowed-requires-2
-is-allowed-requires-2 c κs = search needs
+loop-less : tie.Need-loop-less Inv-loop μ-loop
+loop-less c = omega arith
 
-half-requires-3 : tie.Need-half-requires-3
-half-requires-3 c κs = search needs
+loop-again : tie.Need-loop-again Inv-loop μ-loop
+loop-again c =
+    let l = c .before .before .before .loop in
+    (omega arith, rw (l .inv .1, c .is-allowed .ensures, c .before .half .ensures, add-one (l .i)))
 
-is-allowed-requires-3 : tie.Need-is-allowed-requires-3
-is-allowed-requires-3 c κs = search needs
-
-half-requires-4 : tie.Need-half-requires-4
-half-requires-4 c κs = search needs
-
-is-allowed-requires-4 : tie.Need-is-allowed-requires-4
-is-allowed-requires-4 c κs = search needs
-
-returns : tie.Need-returns
+returns : tie.Need-returns Inv-loop μ-loop
 returns c =
-    let third = c .before .before in
-    let second = third .before .before in
-    let first = second .before .before in
-    rw (
-      first .is-allowed .ensures,
-      first .before .half .ensures,
-      second .is-allowed2 .ensures,
-      second .before .half2 .ensures,
-      third .is-allowed3 .ensures,
-      third .before .half3 .ensures,
-      c .is-allowed4 .ensures,
-      c .before .half4 .ensures,
-    )
+    let l = c .before .loop in
+    let all : l .i ≡ 4 = omega arith in
+    l .inv .1 ∙ ap (allowedUpTo (c .before .before .before .args .t1)) all
 
 pub is-legal-spec : {M : Type 1} → statement M
 is-legal-spec =
     tie.close
     (tie.spec
+    Inv-loop
+    μ-loop
     slice-aggregate-bytes
+    loop-holds
+    mul-half
     half-requires
     is-allowed-requires
-    half-requires-2
-    is-allowed-requires-2
-    half-requires-3
-    is-allowed-requires-3
-    half-requires-4
-    is-allowed-requires-4
+    add-i
+    loop-less
+    loop-again
     returns)
