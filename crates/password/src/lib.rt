@@ -16,23 +16,20 @@ fn is_legal(password: [u8; 8]) -> bool
 {
     let bytes = &password[..];
     let mut allowed = true;
-    let mut i: usize = 0;
-    while i < 4 {
+    for i in 0..4 {
         allowed = allowed & is_allowed(octets::half(bytes, 2 * i));
-        i = i + 1;
     }
     allowed
 }
 
-// Whether two passwords have the same bytes. All 8 are read whatever they hold, so that the time taken does not tell how many are equal.
+// Whether two passwords have the same bytes. All 8 are read whatever they hold, so that the time taken does not tell how many are
+// equal.
 fn is_same(a: [u8; 8], b: [u8; 8]) -> bool
     ensures { λ r. ⌜ r ≡ same a b ⌝ }
 {
     let mut differences: u8 = 0;
-    let mut i: usize = 0;
-    while i < 8 {
+    for i in 0..8 {
         differences = differences | (a[i] ^ b[i]);
-        i = i + 1;
     }
     differences == 0
 }

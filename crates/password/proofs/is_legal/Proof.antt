@@ -1,8 +1,8 @@
--- `password::is_legal` meets its contract: after i half words, those are allowed or not.
+-- `password::is_legal` meets its contract: `allowed` tells whether the first i half words are all allowed.
 use Prim.Native.Nat.{_≤_, _-_}
 use native.Mathlib.Omega.{arith}
 use native.Mathlib.Numerals.{add-one}
-use mathlib.Core.Path.{_≡_, refl, ap, _∙_}
+use mathlib.Core.Path.{_≡_, refl}
 use borrow.Author.Needs.{needs}
 use Rattle.password.proofs.Gathering.{allowedUpTo}
 use Rattle.password.proofs.is_legal.Statement.{statement}
@@ -44,7 +44,7 @@ returns : tie.Need-returns Inv-loop μ-loop
 returns c =
     let l = c .before .loop in
     let all : l .i ≡ 4 = omega arith in
-    l .inv .1 ∙ ap (allowedUpTo (c .before .before .before .args .t1)) all
+    rw (l .inv .1, all)
 
 pub is-legal-spec : {M : Type 1} → statement M
 is-legal-spec =
