@@ -4,15 +4,16 @@ ghost use mathlib.Core.List.{[], _∷_};
 ghost use Rattle.capture.specs.Located.{asLocated, locatedAt};
 ghost use Rattle.session_items.specs.declared.Source.{Source};
 ghost use Rattle.session_items.specs.Items.{Item};
+ghost use Rattle.c_answer.specs.Writing.{asForm};
 ghost use Rattle.c_choice.specs.Calls.{asChoiceReply, choiceAnswer, asFreshReply, sessionReply};
 ghost use Rattle.c_rows.specs.Calls.{asRowsReply, choiceRowsReply, sessionRowsReply};
-ghost use Rattle.c_items.specs.Calls.{asReply, itemReply};
-ghost use Rattle.c_list.specs.Calls.{listReply};
+ghost use Rattle.c_items.specs.Calls.{asReply, ItemClaim};
+ghost use Rattle.c_list.specs.Calls.{ListClaim};
 ghost use Rattle.c_load.specs.Calls.{asBeginReply, replyToBegin, asAskReply, replyToAsk, asTellReply, replyToTell};
 
 // The boot choice.
 #[no_mangle]
-pub extern "C" fn boot_assist_choice(
+pub extern "C" fn boot_assist_flat_choice(
     bootcfg: u8,
     flash: &[u8],
     shadow: &[u8],
@@ -30,7 +31,7 @@ pub extern "C" fn boot_assist_choice(
 
 // The MMU rows of a choice.
 #[no_mangle]
-pub extern "C" fn boot_assist_choice_rows(mode: u8, rows: &mut [u32]) -> u8
+pub extern "C" fn boot_assist_flat_choice_rows(mode: u32, rows: &mut [u32]) -> u8
     ensures { λ r. ⌜ asRowsReply r (now (rows .exit)) ≡ choiceRowsReply mode (now (rows .entry)) ⌝ }
 {
     c_rows::choice_rows(mode, rows)
@@ -38,76 +39,101 @@ pub extern "C" fn boot_assist_choice_rows(mode: u8, rows: &mut [u32]) -> u8
 
 // The MMU rows of a session.
 #[no_mangle]
-pub extern "C" fn boot_assist_session_rows(session: &[u32], rows: &mut [u32]) -> u8
-    ensures { λ r. ⌜ asRowsReply r (now (rows .exit)) ≡ sessionRowsReply (now (session .entry)) (now (rows .entry)) ⌝ }
+pub extern "C" fn boot_assist_flat_session_rows(
+    session_bytes: &[u8],
+    session: &[u32],
+    rows: &mut [u32],
+) -> u8
+    ensures { λ r. ⌜ asRowsReply r (now (rows .exit)) ≡ sessionRowsReply (asForm (now («session_bytes» .entry)) (now (session .entry))) (now (rows .entry)) ⌝ }
 {
-    c_rows::session_rows(session, rows)
+    c_rows::session_rows(session_bytes, session, rows)
 }
 
 // A fresh session, from the mode and the password of a serial choice.
 #[no_mangle]
-pub extern "C" fn boot_assist_session(mode: u8, password: &[u8], session: &mut [u32]) -> u8
-    ensures { λ r. ⌜ asFreshReply r (now (session .exit)) ≡ sessionReply mode (now (password .entry)) (now (session .entry)) ⌝ }
+pub extern "C" fn boot_assist_flat_session(
+    mode: u32,
+    password: &[u8],
+    session_bytes: &mut [u8],
+    session: &mut [u32],
+) -> u8
+    ensures { λ r. ⌜ asFreshReply r (asForm (now («session_bytes» .exit)) (now (session .exit))) ≡ sessionReply mode (now (password .entry)) (asForm (now («session_bytes» .entry)) (now (session .entry))) ⌝ }
 {
-    c_choice::fresh(mode, password, session)
+    c_choice::fresh(mode, password, session_bytes, session)
 }
 
 // One CAN frame.
 #[no_mangle]
-pub extern "C" fn boot_assist_frame(
+pub extern "C" fn boot_assist_flat_frame(
+    session_bytes: &mut [u8],
     session: &mut [u32],
     sram: &mut [u8],
     identifier: u32,
     data: &[u8],
+    echo: &mut [u8],
     answer: &mut [u32],
 ) -> u8
     ensures { λ r. ⌜
-        asReply r (now (session .exit)) (now (sram .exit)) (now (answer .exit))
-        ≡ itemReply (now (session .entry)) (now (sram .entry)) (Item.Of (Source.Can identifier) (now («data» .entry))) (now (answer .entry))
+        ItemClaim (asForm (now («session_bytes» .entry)) (now (session .entry))) (now (sram .entry)) (Item.Of (Source.Can identifier) (now («data» .entry))) (asForm (now (echo .entry)) (now (answer .entry)))
+        (asReply r (asForm (now («session_bytes» .exit)) (now (session .exit))) (now (sram .exit)) (asForm (now (echo .exit)) (now (answer .exit))))
         ⌝ }
 {
-    c_items::frame(session, sram, identifier, data, answer)
+    c_items::frame(session_bytes, session, sram, identifier, data, echo, answer)
 }
 
 // One serial byte, which is faulty where the mark is not 0.
 #[no_mangle]
-pub extern "C" fn boot_assist_byte(
+pub extern "C" fn boot_assist_flat_byte(
+    session_bytes: &mut [u8],
     session: &mut [u32],
     sram: &mut [u8],
     value: u8,
     mark: u8,
+    echo: &mut [u8],
     answer: &mut [u32],
 ) -> u8
     ensures { λ r. ⌜
-        asReply r (now (session .exit)) (now (sram .exit)) (now (answer .exit))
-        ≡ itemReply (now (session .entry)) (now (sram .entry)) (Item.Of (Source.Serial mark) (value ∷ [])) (now (answer .entry))
+        ItemClaim (asForm (now («session_bytes» .entry)) (now (session .entry))) (now (sram .entry)) (Item.Of (Source.Serial mark) (value ∷ [])) (asForm (now (echo .entry)) (now (answer .entry)))
+        (asReply r (asForm (now («session_bytes» .exit)) (now (session .exit))) (now (sram .exit)) (asForm (now (echo .exit)) (now (answer .exit))))
         ⌝ }
 {
-    c_items::byte(session, sram, value, mark, answer)
+    c_items::byte(session_bytes, session, sram, value, mark, echo, answer)
 }
 
 // A list of items.
 #[no_mangle]
-pub extern "C" fn boot_assist_list(
+pub extern "C" fn boot_assist_flat_list(
+    session_bytes: &mut [u8],
     session: &mut [u32],
     sram: &mut [u8],
     kinds: &[u8],
     identifiers: &[u32],
     counts: &[u32],
     bytes: &[u8],
+    echoes: &mut [u8],
     answers: &mut [u32],
 ) -> u8
     ensures { λ r. ⌜
-        asReply r (now (session .exit)) (now (sram .exit)) (now (answers .exit))
-        ≡ listReply (now (session .entry)) (now (sram .entry)) (now (kinds .entry)) (now (identifiers .entry)) (now (counts .entry)) (now (bytes .entry)) (now (answers .entry))
+        ListClaim (asForm (now («session_bytes» .entry)) (now (session .entry))) (now (sram .entry)) (now (kinds .entry)) (now (identifiers .entry)) (now (counts .entry)) (now (bytes .entry)) (asForm (now (echoes .entry)) (now (answers .entry)))
+        (asReply r (asForm (now («session_bytes» .exit)) (now (session .exit))) (now (sram .exit)) (asForm (now (echoes .exit)) (now (answers .exit))))
         ⌝ }
 {
-    c_list::list(session, sram, kinds, identifiers, counts, bytes, answers)
+    c_list::list(
+        session_bytes,
+        session,
+        sram,
+        kinds,
+        identifiers,
+        counts,
+        bytes,
+        echoes,
+        answers,
+    )
 }
 
 // Begins a load.
 #[no_mangle]
-pub extern "C" fn boot_assist_begin(
+pub extern "C" fn boot_assist_flat_begin(
     port: u8,
     start: u32,
     vle: u8,
@@ -122,7 +148,7 @@ pub extern "C" fn boot_assist_begin(
 
 // Asks for the next item of a load.
 #[no_mangle]
-pub extern "C" fn boot_assist_ask(sender: &mut [u32], image: &[u8], item: &mut [u32]) -> u8
+pub extern "C" fn boot_assist_flat_ask(sender: &mut [u32], image: &[u8], item: &mut [u32]) -> u8
     ensures { λ r. ⌜ asAskReply r (now (sender .exit)) (now (item .exit)) ≡ replyToAsk (now (sender .entry)) (now (image .entry)) (now (item .entry)) ⌝ }
 {
     c_load::ask(sender, image, item)
@@ -130,7 +156,7 @@ pub extern "C" fn boot_assist_ask(sender: &mut [u32], image: &[u8], item: &mut [
 
 // Tells a sender what was heard.
 #[no_mangle]
-pub extern "C" fn boot_assist_tell(
+pub extern "C" fn boot_assist_flat_tell(
     sender: &mut [u32],
     image: &[u8],
     port: u8,
@@ -148,7 +174,7 @@ pub extern "C" fn boot_assist_tell(
 
 // The record at a place of a capture.
 #[no_mangle]
-pub extern "C" fn boot_assist_read(capture: &[u8], at: usize, fields: &mut [usize]) -> u8
+pub extern "C" fn boot_assist_flat_read(capture: &[u8], at: usize, fields: &mut [usize]) -> u8
     ensures { λ r. ⌜ asLocated r (now (fields .exit)) ≡ locatedAt (now (capture .entry)) at (now (fields .entry)) ⌝ }
 {
     capture::locate(capture, at, fields)

@@ -1,13 +1,15 @@
 -- The part of a list from a place on, lent, filled and given back.
 use Prim.Native.Nat.{ℕ, _+_, _-_, _≤_}
 use native.Mathlib.Omega.{arith}
-use mathlib.Core.Path.{_≡_}
+use mathlib.Core.Path.{_≡_, refl, _∙_}
+use mathlib.Core.Bool.{Bool, true, false, cond}
 use mathlib.Core.List.{List, append-nil, append-assoc}
-use borrow.Author.Tests.{le-leb}
+use borrow.Author.Tests.{le-leb, leb-true}
+use lib.Dec.{leb}
 use borrow.Rule.Slice.PartMut.{midOf, putMid}
-use lib.ListN.{length, drop, length-drop, drop-of-length-le}
+use lib.ListN.{length, drop, length-append, length-drop, drop-of-length-le}
 use lib.Seq.{take-all, drop-drop}
-use Rattle.buffers.specs.Write.{overFrom, filled}
+use Rattle.buffers.specs.Write.{over, overFrom, filled}
 
 -- what is lent, and the list with a part in its place
 abbrev pub lent : List ℕ → ℕ → List ℕ
@@ -40,3 +42,14 @@ fill-whole bytes list same =
       drop-of-length-le list {i = length bytes} (omega arith),
       append-nil,
     )
+
+-- filling leaves the length
+pub filled-length : (bytes list : List ℕ) → length (filled bytes list) ≡ length list
+unfolding filled
+filled-length bytes list = either (leb (length bytes) (length list)) refl
+  where
+    either : (b : Bool) → leb (length bytes) (length list) ≡ b → length (cond b (over bytes list) list) ≡ length list
+    either true e =
+        let few = leb-true (length bytes) (length list) e in
+        length-append bytes (drop (length bytes) list) ∙ omega (arith, length-drop (length bytes) list)
+    either false e = refl

@@ -2,15 +2,45 @@
 ghost use mathlib.Core.Path.{_≡_};
 ghost use Prim.Native.Nat.{_-_, _≤_};
 ghost use lib.ListN.{length, drop};
+ghost use Rattle.octets.specs.Read.{firstEight};
 ghost use Rattle.buffers.specs.Write.{over, filled};
+
+// Writes bytes over the first places of a slice that has room for them. Eight bytes are read before one is written, so that they are moved
+// as a whole.
+fn copy_bytes(out: &mut [u8], bytes: &[u8])
+    requires { ⌜ length (now bytes) ≤ length (now out) ⌝ }
+    ensures { λ _. ⌜ now (out .exit) ≡ over (now (bytes .entry)) (now (out .entry)) ⌝ }
+{
+    if bytes.len() == 8 {
+        let eight = octets::first_eight(bytes);
+        bytes::copy(&eight[..], out);
+        return;
+    }
+    bytes::copy(bytes, out);
+}
 
 // Writes bytes over the first places of a slice, or nothing where there is no room for them.
 pub fn fill(out: &mut [u8], bytes: &[u8])
     ensures { λ _. ⌜ now (out .exit) ≡ filled (now (bytes .entry)) (now (out .entry)) ⌝ }
 {
     if bytes.len() <= out.len() {
-        bytes::copy(bytes, out);
+        copy_bytes(out, bytes);
     }
+}
+
+// The first eight bytes, as `octets::first_eight` has them. One byte and eight, which most items have, are moved as a whole.
+pub fn eight_of(bytes: &[u8]) -> [u8; 8]
+    ensures { λ r. ⌜ r ≡ firstEight (now (bytes .entry)) ⌝ }
+{
+    if bytes.len() == 1 {
+        return [bytes[0], 0, 0, 0, 0, 0, 0, 0];
+    }
+    if bytes.len() == 8 {
+        let mut all = [0; 8];
+        fill(&mut all[..], bytes);
+        return all;
+    }
+    octets::first_eight(bytes)
 }
 
 // Moves the bytes from a place on to the start, and returns how many they are. The places behind them keep theirs.

@@ -1,13 +1,22 @@
--- Answers, and what else crosses the C interface, as numbers in the order of include/boot_assist.h.
+-- Answers, and what else crosses the C interface, as bytes and numbers in the order of include/boot_assist.h.
 use Prim.Native.Nat.{ℕ}
 use mathlib.Core.List.{List, [], _∷_, _++_}
-use mathlib.Core.Bool.{Bool, cond}
+use mathlib.Core.Bool.{Bool, cond, _&&_}
 use lib.Dec.{eqb}
+use lib.ListN.{length}
 use Rattle.octets.specs.Read.{firstEight}
 use Rattle.session_configuration.specs.declared.Entered.{Entered}
 use Rattle.session_answers.specs.declared.Answer.{Answer}
 use Rattle.session_answers.specs.declared.Outcome.{Outcome}
 use Rattle.session_answers.specs.Answers.{outcomeNumber}
+
+-- what crosses as bytes and as numbers
+pub record Form : Type 0 where
+  pub bytes : List ℕ
+  pub numbers : List ℕ
+
+abbrev pub asForm : List ℕ → List ℕ → Form
+asForm bytes numbers = record { bytes = bytes; numbers = numbers }
 
 -- a flag is 0 or 1
 abbrev pub bit : Bool → ℕ
@@ -31,12 +40,26 @@ jumpNumbers (Outcome.Stops refusal) = 0 ∷ 0 ∷ []
 jumpNumbers (Outcome.Jumps jump) = jump .start .0 ∷ bit (jump .vle) ∷ []
 jumpNumbers (Outcome.Refused fault) = 0 ∷ 0 ∷ []
 
--- the numbers of an answer: its number, the echo, the jump
-abbrev pub answerWidth : ℕ
-answerWidth = 13
-
+-- an answer crosses as the 8 bytes of its echo and as 5 numbers: its own, the identifier and the length of the echo, and the jump's two
 abbrev pub answerNumbers : Answer → List ℕ
 answerNumbers answer =
-    (outcomeNumber (answer .outcome) ∷ answer .echo .identifier ∷ answer .echo .length ∷ [])
-    ++ firstEight (answer .echo .bytes)
-    ++ jumpNumbers (answer .outcome)
+    (outcomeNumber (answer .outcome) ∷ answer .echo .identifier ∷ answer .echo .length ∷ []) ++ jumpNumbers (answer .outcome)
+
+abbrev pub echoBytes : Answer → List ℕ
+echoBytes answer = firstEight (answer .echo .bytes)
+
+abbrev pub answerForm : Answer → Form
+answerForm answer = asForm (echoBytes answer) (answerNumbers answer)
+
+abbrev pub echoWidth : ℕ
+echoWidth = 8
+
+abbrev pub answerWidth : ℕ
+answerWidth = 5
+
+-- places for an answer; and an answer in its places, of which other ones keep what they hold
+abbrev pub answerPlaces : Form → Bool
+answerPlaces form = eqb (length (form .bytes)) echoWidth && eqb (length (form .numbers)) answerWidth
+
+unfoldable pub answerPut : Answer → Form → Form
+answerPut answer form = cond (answerPlaces form) (answerForm answer) form

@@ -1,13 +1,14 @@
 // Answers, and what else crosses the C interface, as numbers (include/boot_assist.h).
 ghost use mathlib.Core.Path.{_≡_};
-ghost use Rattle.octets.specs.Read.{firstEight};
-ghost use Rattle.c_answer.specs.Writing.{bit, enteredNumber, enteredOf, jumpNumbers, answerNumbers};
+ghost use Rattle.c_answer.specs.Writing.{bit, enteredNumber, enteredOf, asForm, jumpNumbers, answerNumbers, answerPlaces, answerPut};
 use session_answers::Answer;
 use session_answers::Outcome;
 use session_configuration::Entered;
 
-// How many numbers an answer has.
-pub const ANSWER_WIDTH: usize = 13;
+// How many bytes an echo has, and how many numbers an answer has beside them.
+pub const ECHO_WIDTH: usize = 8;
+
+pub const ANSWER_WIDTH: usize = 5;
 
 // A flag as 0 or 1.
 pub fn flag(is_set: bool) -> u32
@@ -41,26 +42,11 @@ pub fn entered_of(number: u32) -> Entered
     }
 }
 
-// A byte as a number, and eight of them.
+// A byte as a number.
 pub fn wide(byte: u8) -> u32
     ensures { λ r. ⌜ r ≡ byte ⌝ }
 {
     byte as u32
-}
-
-pub fn eight_numbers(bytes: [u8; 8]) -> [u32; 8]
-    ensures { λ r. ⌜ r ≡ firstEight bytes ⌝ }
-{
-    [
-        wide(bytes[0]),
-        wide(bytes[1]),
-        wide(bytes[2]),
-        wide(bytes[3]),
-        wide(bytes[4]),
-        wide(bytes[5]),
-        wide(bytes[6]),
-        wide(bytes[7]),
-    ]
 }
 
 // The jump address and VLE of an outcome.
@@ -77,27 +63,40 @@ fn jump_numbers(outcome: Outcome) -> [u32; 2]
 }
 
 // The numbers of an answer.
-pub fn answer_numbers(answer: Answer) -> [u32; ANSWER_WIDTH]
+fn answer_numbers(answer: Answer) -> [u32; ANSWER_WIDTH]
     ensures { λ r. ⌜ r ≡ answerNumbers answer ⌝ }
 {
     let outcome = answer.outcome;
     let echo = answer.echo;
-    let echoed = echo.bytes;
-    let bytes = eight_numbers(echoed);
     let jump = jump_numbers(outcome);
     [
         wide(session_answers::outcome_number(outcome)),
         echo.identifier,
         wide(echo.length),
-        bytes[0],
-        bytes[1],
-        bytes[2],
-        bytes[3],
-        bytes[4],
-        bytes[5],
-        bytes[6],
-        bytes[7],
         jump[0],
         jump[1],
     ]
+}
+
+// Whether there are places for an answer.
+pub fn has_places(echo: &[u8], answer: &[u32]) -> bool
+    ensures { λ r. ⌜ r ≡ answerPlaces (asForm (now (echo .entry)) (now (answer .entry))) ⌝ }
+{
+    (echo.len() == ECHO_WIDTH) & (answer.len() == ANSWER_WIDTH)
+}
+
+// Writes an answer, where there are places for it.
+pub fn put_answer(echo: &mut [u8], answer: &mut [u32], given: Answer)
+    ensures { λ _. ⌜
+        asForm (now (echo .exit)) (now (answer .exit))
+        ≡ answerPut given (asForm (now (echo .entry)) (now (answer .entry)))
+        ⌝ }
+{
+    if has_places(echo, answer) {
+        let said = given.echo;
+        let bytes = said.bytes;
+        let numbers = answer_numbers(given);
+        buffers::fill(echo, &bytes[..]);
+        buffers::fill_words(answer, &numbers[..]);
+    }
 }

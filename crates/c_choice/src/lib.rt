@@ -1,13 +1,13 @@
 // The boot choice, and the session that it gives, on numbers and lent outputs, as the C interface has them (include/boot_assist.h).
 ghost use mathlib.Core.Path.{_≡_};
 ghost use lib.ListN.{length};
+ghost use Rattle.c_answer.specs.Writing.{asForm};
 ghost use Rattle.c_choice.specs.Numbers.{modeNumber, modeOf, bootNumbers};
 ghost use Rattle.c_choice.specs.Calls.{asChoiceReply, choiceLeaves, choiceAnswer, asFreshReply, sessionReply};
 use boot::Answer;
 use boot::Boot;
 use boot::Choice;
 use boot::Mode;
-use c_session::SESSION_WIDTH;
 
 // The number of a way to boot, which `mode_of` reads as that way.
 fn mode_number(mode: Mode) -> u32
@@ -21,13 +21,13 @@ fn mode_number(mode: Mode) -> u32
 }
 
 // The way to boot of a number.
-pub fn mode_of(number: u8) -> Mode
+pub fn mode_of(number: u32) -> Mode
     ensures { λ r. ⌜ r ≡ modeOf number ⌝ }
 {
     match number {
         0 => Mode::Internal,
         1 => Mode::External,
-        _ => Mode::Serial(c_answer::entered_of(number as u32)),
+        _ => Mode::Serial(c_answer::entered_of(number)),
     }
 }
 
@@ -91,8 +91,11 @@ pub fn choose(
 }
 
 // A fresh session, from the number of a way to boot and the password selected.
-pub fn fresh(mode: u8, password: &[u8], session: &mut [u32]) -> u8
-    ensures { λ r. ⌜ asFreshReply r (now (session .exit)) ≡ sessionReply mode (now (password .entry)) (now (session .entry)) ⌝ }
+pub fn fresh(mode: u32, password: &[u8], session_bytes: &mut [u8], session: &mut [u32]) -> u8
+    ensures { λ r. ⌜
+        asFreshReply r (asForm (now («session_bytes» .exit)) (now (session .exit)))
+        ≡ sessionReply mode (now (password .entry)) (asForm (now («session_bytes» .entry)) (now (session .entry)))
+        ⌝ }
 {
     if 4 < mode {
         return 9;
@@ -100,13 +103,13 @@ pub fn fresh(mode: u8, password: &[u8], session: &mut [u32]) -> u8
     if password.len() != 8 {
         return 9;
     }
-    if session.len() != SESSION_WIDTH {
+    if !c_session::has_places(session_bytes, session) {
         return 9;
     }
     let start = session_fresh::fresh_in(mode_of(mode), octets::first_eight(password));
     if start.serial {
         let fresh = start.session;
-        c_session::put_session(session, fresh);
+        c_session::put_session(session_bytes, session, fresh);
         return 0;
     }
     9

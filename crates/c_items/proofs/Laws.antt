@@ -1,45 +1,99 @@
--- What follows where the precheck has passed, and what an item leaves.
+-- What the calls for an item claim, where there are no places for an answer, where the item is refused and where it is answered.
 use Prim.Native.Nat.{ℕ}
 use native.Mathlib.Omega.{arith}
-use mathlib.Core.Path.{_≡_, refl, ap, _∙_}
-use mathlib.Core.List.{List, []}
-use mathlib.Core.Bool.{Bool, true, false, cond}
-use borrow.Author.Tests.{eqb-true}
-use lib.Dec.{eqb}
-use lib.ListN.{length}
+use mathlib.Core.Path.{_≡_, refl, sym, ap, _∙_}
+use mathlib.Core.List.{List, [], _∷_}
+use mathlib.Core.Bool.{Bool, true, false, true≢false}
+use mathlib.Core.Logic.{inl, inr}
+use denote.Enum.Declared.{tagOf}
+use types.Run.{OneOf}
+use borrow.Author.Tests.{ne-eqb}
+use Rattle.session_state.specs.declared.Session.{Session}
+use Rattle.session_items.specs.Items.{Item, wellFormed}
+use Rattle.session_answers.specs.declared.Fault.{Fault}
+use Rattle.session_answers.specs.declared.Outcome.{Outcome}
+use Rattle.session_answers.proofs.Outcome.{the-type}
 use Rattle.session_answers.specs.declared.Prechecked.{Prechecked}
 use Rattle.session_answers.specs.declared.StepResult.{StepResult}
-use Rattle.session_answers.specs.Answers.{Result, resultOf, precheck}
+use Rattle.session_answers.specs.Answers.{Result, resultOf, faultNumber, outcomeNumber, precheck}
 use Rattle.session_answers.proofs.Laws.{precheck-passed, fault-some}
-use Rattle.c_answer.specs.Writing.{answerWidth}
-use Rattle.c_session.specs.Writing.{sessionWidth}
-use Rattle.c_session.specs.Reading.{sessionIn}
-use Rattle.c_session.proofs.Lengths.{sound-length}
-use Rattle.c_items.specs.Calls.{asReply, leaves, precheckNumber, itemPrecheck}
+use Rattle.session.specs.Rules.{step}
+use Rattle.session.proofs.Answered.{IsAnswer, answered, refused}
+use Rattle.c_answer.specs.Writing.{Form, asForm, answerPlaces, answerPut}
+use Rattle.c_session.specs.Writing.{sessionForm, sessionPut}
+use Rattle.c_session.specs.Reading.{sessionIn, Written}
+use Rattle.c_session.proofs.Lengths.{sound-written}
+use Rattle.c_items.specs.Calls.{asReply, precheckNumber, itemPrecheck, leaves, itemReply, ItemClaim}
 
--- numbers of a session that passes the precheck
-pub passed-length : (session sram : List ℕ) (formed : Bool) → precheck (sessionIn session) sram formed ≡ Prechecked.Passed → length session ≡ sessionWidth
-passed-length session sram formed e = sound-length session (precheck-passed (sessionIn session) sram formed e .0 .fine)
+-- an outcome of the arm that is not for refusals
+pub not-refused : (outcome : Outcome) → OneOf (0 ∷ 1 ∷ 2 ∷ 3 ∷ []) (tagOf the-type outcome) → IsAnswer outcome
+not-refused Outcome.Taken k = tt
+not-refused Outcome.Ignored k = tt
+not-refused (Outcome.Stops refusal) k = tt
+not-refused (Outcome.Jumps jump) k = tt
+not-refused (Outcome.Refused fault) k =
+    elim k [ inl a ↦ absurd (omega arith) | inr b ↦ elim b [ inl c ↦ absurd (omega arith) | inr d ↦ elim d [ inl e ↦ absurd (omega arith) | inr f ↦ absurd (omega arith) ] ] ]
 
--- an item that passes the precheck has room for its session and its answer
-pub item-room : (session sram : List ℕ) (formed : Bool) (room : ℕ) → itemPrecheck (sessionIn session) sram formed room ≡ 0
-    → (length session ≡ sessionWidth) × (room ≡ answerWidth)
+-- without places for an answer something is due
+some-due : (session : Session) (sram : List ℕ) (formed : Bool) → itemPrecheck session sram formed false ≡ 0 → ⊥
 unfolding itemPrecheck
-item-room session sram formed room e = by (precheck (sessionIn session) sram formed) refl e
+some-due session sram formed e = by (precheck session sram formed) e
   where
-    nine : (b : Bool) → _≡_ {A = ℕ} (cond b 0 9) 0 → b ≡ true
-    nine true e = refl
-    nine false e = absurd (omega arith)
+    by : (first : Prechecked) → precheckNumber first false ≡ 0 → ⊥
+    by Prechecked.Passed e = omega arith
+    by (Prechecked.Refused fault) e = fault-some fault e
 
-    by : (first : Prechecked) → precheck (sessionIn session) sram formed ≡ first → precheckNumber first room ≡ 0
-        → (length session ≡ sessionWidth) × (room ≡ answerWidth)
-    by Prechecked.Passed none e = (passed-length session sram formed none, eqb-true room answerWidth (nine (eqb room answerWidth) e))
-    by (Prechecked.Refused fault) refused e = absurd (fault-some fault e)
+module _ (bytes numbers sram : List ℕ) (item : Item) (answer : Form) where
+  pub unplaced : (number : ℕ) → answerPlaces answer ≡ false
+      → number ≡ itemPrecheck (sessionIn (asForm bytes numbers)) sram (wellFormed item) false
+      → ItemClaim (asForm bytes numbers) sram item answer (asReply number (asForm bytes numbers) sram answer)
+  unfolding itemReply
+  unplaced number none e =
+      let some = ne-eqb (itemPrecheck (sessionIn (asForm bytes numbers)) sram (wellFormed item) false) 0 (some-due (sessionIn (asForm bytes numbers)) sram (wellFormed item)) in
+      record {
+        equation = rw (none, some, e);
+        reads-back = λ there. absurd (true≢false (sym there ∙ none));
+      }
 
--- what an item leaves, from what is written of its result and what it leaves of SRAM
-pub result-leaves : (result : StepResult) (number : ℕ) (session sram answer : List ℕ) (next : Result)
-    → asReply number session [] answer ≡ leaves (resultOf result [])
-    → resultOf result sram ≡ next
-    → asReply number session sram answer ≡ leaves next
-result-leaves result number session sram answer next e f =
-    ap (λ r. asReply (r .number) (r .session) sram (r .answer)) e ∙ ap leaves f
+  -- the item's step, and what is written of it
+  module _ (result : StepResult) (after : List ℕ) (there : answerPlaces answer ≡ true) (e : resultOf result after ≡ step (sessionIn (asForm bytes numbers)) sram item) where
+    same-outcome : result .answer .outcome ≡ step (sessionIn (asForm bytes numbers)) sram item .answer .outcome
+    same-outcome = ap (λ (r : Result). r .answer .outcome) e
+
+    pub refused-claim : (fault : Fault) → result .answer .outcome ≡ Outcome.Refused fault
+        → ItemClaim (asForm bytes numbers) sram item answer (asReply (outcomeNumber (result .answer .outcome)) (asForm bytes numbers) after answer)
+    unfolding itemReply itemPrecheck
+    refused-claim fault is = by (precheck (sessionIn (asForm bytes numbers)) sram (wellFormed item)) refl
+      where
+        by : (first : Prechecked) → precheck (sessionIn (asForm bytes numbers)) sram (wellFormed item) ≡ first
+            → ItemClaim (asForm bytes numbers) sram item answer (asReply (outcomeNumber (result .answer .outcome)) (asForm bytes numbers) after answer)
+        by Prechecked.Passed f =
+            absurd (rw (← same-outcome, is) at (answered (sessionIn (asForm bytes numbers)) sram item f))
+        by (Prechecked.Refused due) f =
+            let next = e ∙ refused (sessionIn (asForm bytes numbers)) sram item due f in
+            record {
+              equation =
+                  rw (f, ne-eqb (faultNumber due) 0 (fault-some due))
+                  (ap (λ (r : Result). asReply (r .number) (asForm bytes numbers) (r .sram) answer) next);
+              reads-back = λ placed. sym (ap (λ (r : Result). r .session) (refused (sessionIn (asForm bytes numbers)) sram item due f));
+            }
+
+    pub answered-claim : (session written : Form) → IsAnswer (result .answer .outcome)
+        → Written (result .session) (asForm bytes numbers) session
+        → written ≡ answerPut (result .answer) answer
+        → ItemClaim (asForm bytes numbers) sram item answer (asReply (outcomeNumber (result .answer .outcome)) session after written)
+    unfolding itemReply itemPrecheck sessionPut answerPut
+    answered-claim session written is put said = by (precheck (sessionIn (asForm bytes numbers)) sram (wellFormed item)) refl
+      where
+        by : (first : Prechecked) → precheck (sessionIn (asForm bytes numbers)) sram (wellFormed item) ≡ first
+            → ItemClaim (asForm bytes numbers) sram item answer (asReply (outcomeNumber (result .answer .outcome)) session after written)
+        by Prechecked.Passed f =
+            let ok = precheck-passed (sessionIn (asForm bytes numbers)) sram (wellFormed item) f .0 in
+            let placed = sound-written bytes numbers (ok .fine) .placed in
+            let left : session ≡ sessionForm (result .session) = put .equation ∙ rw placed in
+            record {
+              equation = rw (f, there, left, said, there) (ap leaves e);
+              reads-back = λ placed. rw left (put .reads-back ∙ ap (λ (r : Result). r .session) e);
+            }
+        by (Prechecked.Refused due) f =
+            absurd (rw (same-outcome, refused (sessionIn (asForm bytes numbers)) sram item due f) at is)

@@ -1,46 +1,51 @@
--- The calls for an item as C sees them (include/boot_assist.h): sessions and answers are lists of numbers, and memory is lent.
+-- The calls for an item as C sees them (include/boot_assist.h): a session and an answer cross as bytes and numbers, and memory is lent.
 use Prim.Native.Nat.{ℕ}
+use mathlib.Core.Path.{_≡_}
 use mathlib.Core.List.{List}
-use mathlib.Core.Bool.{Bool, cond}
+use mathlib.Core.Bool.{Bool, true, cond}
 use lib.Dec.{eqb}
-use lib.ListN.{length}
 use Rattle.session_state.specs.declared.Session.{Session}
 use Rattle.session_items.specs.Items.{Item, wellFormed}
 use Rattle.session_answers.specs.declared.Prechecked.{Prechecked}
 use Rattle.session_answers.specs.Answers.{Result, faultNumber, precheck}
 use Rattle.session.specs.Rules.{step}
-use Rattle.c_answer.specs.Writing.{answerWidth, answerNumbers}
-use Rattle.c_session.specs.Writing.{sessionNumbers}
+use Rattle.c_answer.specs.Writing.{Form, answerForm, answerPlaces}
+use Rattle.c_session.specs.Writing.{sessionForm}
 use Rattle.c_session.specs.Reading.{sessionIn}
 
--- a call: its number, and the numbers of the session, SRAM and the numbers of the answer or the answers as it leaves them
+-- a call: its number, and the session, SRAM and the answer or the answers as it leaves them
 pub record Reply : Type 0 where
   pub number : ℕ
-  pub session : List ℕ
+  pub session : Form
   pub sram : List ℕ
-  pub answer : List ℕ
+  pub answer : Form
 
-abbrev pub asReply : ℕ → List ℕ → List ℕ → List ℕ → Reply
+abbrev pub asReply : ℕ → Form → List ℕ → Form → Reply
 asReply number session sram answer = record { number = number; session = session; sram = sram; answer = answer }
 
 -- 7, then 8, then 6 for what is handed in, and then 9 for an answer that has not its places; or 0
-abbrev pub precheckNumber : Prechecked → ℕ → ℕ
-precheckNumber Prechecked.Passed room = cond (eqb room answerWidth) 0 9
-precheckNumber (Prechecked.Refused fault) room = faultNumber fault
+abbrev pub precheckNumber : Prechecked → Bool → ℕ
+precheckNumber Prechecked.Passed placed = cond placed 0 9
+precheckNumber (Prechecked.Refused fault) placed = faultNumber fault
 
-unfoldable pub itemPrecheck : Session → List ℕ → Bool → ℕ → ℕ
-itemPrecheck session sram formed room = precheckNumber (precheck session sram formed) room
+unfoldable pub itemPrecheck : Session → List ℕ → Bool → Bool → ℕ
+itemPrecheck session sram formed placed = precheckNumber (precheck session sram formed) placed
 
 -- what an item leaves
 abbrev pub leaves : Result → Reply
-leaves next =
-    asReply (next .number) (sessionNumbers (next .session)) (next .sram) (answerNumbers (next .answer))
+leaves next = asReply (next .number) (sessionForm (next .session)) (next .sram) (answerForm (next .answer))
 
--- one item, with the session that the numbers are; a call that is refused so changes nothing
-abbrev pub itemLeaves : ℕ → List ℕ → List ℕ → Item → List ℕ → Reply
+-- one item, with the session that bytes and numbers are; a call that is refused so changes nothing
+abbrev pub itemLeaves : ℕ → Form → List ℕ → Item → Form → Reply
 itemLeaves first session sram item answer =
     cond (eqb first 0) (leaves (step (sessionIn session) sram item)) (asReply first session sram answer)
 
-unfoldable pub itemReply : List ℕ → List ℕ → Item → List ℕ → Reply
+unfoldable pub itemReply : Form → List ℕ → Item → Form → Reply
 itemReply session sram item answer =
-    itemLeaves (itemPrecheck (sessionIn session) sram (wellFormed item) (length answer)) session sram item answer
+    itemLeaves (itemPrecheck (sessionIn session) sram (wellFormed item) (answerPlaces answer)) session sram item answer
+
+-- what the calls for an item promise of the reply: it is that one, and where there are places for an answer, what is left of the session is read
+-- as the session that the item's step leaves
+pub record ItemClaim (session : Form) (sram : List ℕ) (item : Item) (answer : Form) (reply : Reply) : Type 0 where
+  pub equation : reply ≡ itemReply session sram item answer
+  pub reads-back : answerPlaces answer ≡ true → sessionIn (reply .session) ≡ step (sessionIn session) sram item .session

@@ -1,29 +1,109 @@
--- What follows where a list passes the precheck.
-use Prim.Native.Nat.{ℕ}
+-- An item of a list whose session and SRAM are accepted: it is refused for its form, or answered; and its answer in its places.
+use Prim.Native.Nat.{ℕ, _+_, _*_, _-_, _≤_}
+use native.Mathlib.Omega.{arith}
 use mathlib.Core.Path.{_≡_, refl, sym, ap, _∙_}
-use mathlib.Core.List.{List}
+use mathlib.Core.List.{List, append-assoc}
+use mathlib.Core.Bool.{Bool, true, false}
+use borrow.Author.Tests.{eq-eqb}
+use borrow.Rule.Slice.PartMut.{midOf, putMid, mid-len, put-same}
+use lib.Seq.{drop-drop}
 use lib.ListN.{length}
+use Rattle.buffers.specs.Write.{overFrom}
+use Rattle.session_state.specs.declared.Refusal.{Refusal}
+use Rattle.session_items.specs.Items.{Item, wellFormed}
+use Rattle.session_answers.specs.declared.Answer.{Answer}
+use Rattle.session_answers.specs.declared.Fault.{Fault}
+use Rattle.session_answers.specs.declared.Outcome.{Outcome}
 use Rattle.session_answers.specs.declared.Prechecked.{Prechecked}
-use Rattle.session_answers.specs.Answers.{precheck}
-use Rattle.session_answers.proofs.Laws.{fault-some}
-use Rattle.session_list.specs.Listing.{itemsOf, listFits, ListResult, listChecked, runList}
-use Rattle.c_session.specs.Writing.{sessionWidth}
+use Rattle.session_answers.specs.Answers.{Result, outcomeNumber, precheck, withoutEcho, unchanged}
+use Rattle.session_answers.proofs.Laws.{precheck-passed}
+use Rattle.session.specs.Rules.{step}
+use Rattle.session.proofs.Answered.{IsAnswer, answered, refused, step-number}
+use Rattle.c_answer.specs.Writing.{Form, asForm, echoWidth, answerWidth, echoBytes, answerNumbers, answerForm, answerPlaces}
+use Rattle.c_answer.proofs.Whole.{answer-length}
 use Rattle.c_session.specs.Reading.{sessionIn}
-use Rattle.c_items.proofs.Laws.{passed-length}
+use Rattle.c_items.specs.Calls.{Reply, asReply, itemPrecheck, leaves, itemReply, ItemClaim}
+use Rattle.c_list.specs.Calls.{answerAt}
 
--- a list that gets 0 has room for its session
-pub list-length : (session sram kinds identifiers counts bytes answers : List ℕ) (leaves : ListResult)
-    → leaves ≡ runList (sessionIn session) sram kinds identifiers counts bytes answers
-    → leaves .number ≡ 0
-    → length session ≡ sessionWidth
-unfolding runList
-list-length session sram kinds identifiers counts bytes answers leaves e zero =
-    by (precheck (sessionIn session) sram (listFits kinds identifiers counts (length bytes) (length answers))) refl
-    (sym (ap (λ (l : ListResult). l .number) e) ∙ zero)
-  where
-    by : (first : Prechecked)
-        → precheck (sessionIn session) sram (listFits kinds identifiers counts (length bytes) (length answers)) ≡ first
-        → listChecked first (sessionIn session) sram (itemsOf kinds identifiers counts bytes) answers .number ≡ 0
-        → length session ≡ sessionWidth
-    by Prechecked.Passed none e = passed-length session sram (listFits kinds identifiers counts (length bytes) (length answers)) none
-    by (Prechecked.Refused fault) refused e = absurd (fault-some fault e)
+-- the places of answer i, lent and given back
+abbrev pub echoPart : ℕ → List ℕ → List ℕ
+echoPart i echoes = midOf (echoWidth * i) (echoWidth * i + echoWidth - echoWidth * i) echoes
+
+abbrev pub answerPart : ℕ → List ℕ → List ℕ
+answerPart i answers = midOf (answerWidth * i) (answerWidth * i + answerWidth - answerWidth * i) answers
+
+abbrev pub putParts : ℕ → List ℕ → List ℕ → Form → Form
+putParts i echoes answers part =
+    asForm (putMid (echoWidth * i) (echoWidth * i + echoWidth - echoWidth * i) echoes (part .bytes))
+    (putMid (answerWidth * i) (answerWidth * i + answerWidth - answerWidth * i) answers (part .numbers))
+
+part-over : (at width : ℕ) (row rows : List ℕ) → length row ≡ width → putMid at (at + width - at) rows row ≡ overFrom at row rows
+part-over at width row rows e =
+    let same : at + width - at ≡ width = omega arith in
+    rw (same, drop-drop width at rows, e, append-assoc)
+
+module _ (i : ℕ) (echoes answers : List ℕ) (e : echoWidth * i + echoWidth ≤ length echoes) (a : answerWidth * i + answerWidth ≤ length answers) where
+  pub parts-placed : answerPlaces (asForm (echoPart i echoes) (answerPart i answers)) ≡ true
+  parts-placed =
+      let many = mid-len (echoWidth * i) (echoWidth * i + echoWidth) echoes e in
+      let many-2 = mid-len (answerWidth * i) (answerWidth * i + answerWidth) answers a in
+      rw (eq-eqb (length (echoPart i echoes)) echoWidth (many ∙ omega arith), eq-eqb (length (answerPart i answers)) answerWidth (many-2 ∙ omega arith))
+
+  -- an answer that was put there
+  pub parts-answered : (answer : Answer) → putParts i echoes answers (answerForm answer) ≡ answerAt i answer (asForm echoes answers)
+  parts-answered answer =
+      λ k. asForm (part-over (echoWidth * i) echoWidth (echoBytes answer) echoes refl k)
+      (part-over (answerWidth * i) answerWidth (answerNumbers answer) answers (answer-length answer) k)
+
+  -- and parts that were left as they were
+  pub parts-kept : putParts i echoes answers (asForm (echoPart i echoes) (answerPart i answers)) ≡ asForm echoes answers
+  parts-kept = λ k. asForm (put-same (echoWidth * i) (echoWidth * i + echoWidth - echoWidth * i) echoes k) (put-same (answerWidth * i) (answerWidth * i + answerWidth - answerWidth * i) answers k)
+
+-- an answer of the rules is not 6
+not-six : (outcome : Outcome) → IsAnswer outcome → outcomeNumber outcome ≡ 6 → ⊥
+not-six Outcome.Taken is e = omega arith
+not-six Outcome.Ignored is e = omega arith
+not-six (Outcome.Stops Refusal.Password) is e = omega arith
+not-six (Outcome.Stops Refusal.Length) is e = omega arith
+not-six (Outcome.Stops Refusal.Range) is e = omega arith
+not-six (Outcome.Stops (Refusal.FaultyByte vle)) is e = omega arith
+not-six (Outcome.Jumps jump) is e = omega arith
+not-six (Outcome.Refused fault) is e = absurd is
+
+-- what 6 says, and what another number does
+pub record Six (session : Form) (sram : List ℕ) (item : Item) (answer : Form) (reply : Reply) : Type 0 where
+  pub reply-is : reply ≡ asReply 6 session sram answer
+  pub step-is : step (sessionIn session) sram item ≡ unchanged (Outcome.Refused Fault.Form) (sessionIn session) sram
+
+module _ (session : Form) (sram : List ℕ) (item : Item) (answer : Form) (reply : Reply) (claim : ItemClaim session sram item answer reply)
+    (there : answerPlaces answer ≡ true) (passed : precheck (sessionIn session) sram true ≡ Prechecked.Passed) where
+  formed : wellFormed item ≡ true → precheck (sessionIn session) sram (wellFormed item) ≡ Prechecked.Passed
+  formed w = rw w passed
+
+  unformed : wellFormed item ≡ false → precheck (sessionIn session) sram (wellFormed item) ≡ Prechecked.Refused Fault.Form
+  unfolding precheck
+  unformed w = let ok = precheck-passed (sessionIn session) sram true passed .0 in rw (ok .right, ok .fine, w)
+
+  answers-it : wellFormed item ≡ true → reply ≡ leaves (step (sessionIn session) sram item)
+  unfolding itemReply itemPrecheck
+  answers-it w = claim .equation ∙ rw (formed w, there)
+
+  refuses-it : wellFormed item ≡ false → reply ≡ asReply 6 session sram answer
+  unfolding itemReply itemPrecheck
+  refuses-it w = claim .equation ∙ rw (unformed w)
+
+  pub six : reply .number ≡ 6 → Six session sram item answer reply
+  six n = by (wellFormed item) refl
+    where
+      by : (w : Bool) → wellFormed item ≡ w → Six session sram item answer reply
+      by true w =
+          let number = sym (step-number (sessionIn session) sram item) ∙ sym (ap (λ (r : Reply). r .number) (answers-it w)) ∙ n in
+          absurd (not-six (step (sessionIn session) sram item .answer .outcome) (answered (sessionIn session) sram item (formed w)) number)
+      by false w = record { reply-is = refuses-it w; step-is = refused (sessionIn session) sram item Fault.Form (unformed w) }
+
+  pub other : (reply .number ≡ 6 → ⊥) → reply ≡ leaves (step (sessionIn session) sram item)
+  other n = by (wellFormed item) refl
+    where
+      by : (w : Bool) → wellFormed item ≡ w → reply ≡ leaves (step (sessionIn session) sram item)
+      by true w = answers-it w
+      by false w = absurd (n (ap (λ (r : Reply). r .number) (refuses-it w)))

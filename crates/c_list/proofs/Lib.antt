@@ -1,1 +1,3 @@
-pub mod Laws
+mod Handing
+mod Laws
+mod Claiming

@@ -1,6 +1,7 @@
 // The MMU rows of a choice and of a session on numbers and a lent output, as the C interface has them (include/boot_assist.h).
 ghost use mathlib.Core.Path.{_≡_};
 ghost use lib.ListN.{length};
+ghost use Rattle.c_answer.specs.Writing.{asForm};
 ghost use Rattle.c_rows.specs.Numbers.{rowNumbers, tableNumbers};
 ghost use Rattle.c_rows.specs.Calls.{asRowsReply, rowsLeave, choiceRowsReply, sessionRowsReply};
 use mmu::Mapping;
@@ -52,7 +53,7 @@ fn put_mapping(rows: &mut [u32], mapping: Mapping) -> u8
 }
 
 // The rows of a choice: writes 5 rows of 8 numbers and returns number 0; or returns number 11 or 9.
-pub fn choice_rows(mode: u8, rows: &mut [u32]) -> u8
+pub fn choice_rows(mode: u32, rows: &mut [u32]) -> u8
     ensures { λ r. ⌜ asRowsReply r (now (rows .exit)) ≡ choiceRowsReply mode (now (rows .entry)) ⌝ }
 {
     if mode <= 4 {
@@ -62,8 +63,14 @@ pub fn choice_rows(mode: u8, rows: &mut [u32]) -> u8
 }
 
 // The rows of a session: the same, or returns number 8, 11 or 9.
-pub fn session_rows(session: &[u32], rows: &mut [u32]) -> u8
-    ensures { λ r. ⌜ asRowsReply r (now (rows .exit)) ≡ sessionRowsReply (now (session .entry)) (now (rows .entry)) ⌝ }
+pub fn session_rows(session_bytes: &[u8], session: &[u32], rows: &mut [u32]) -> u8
+    ensures { λ r. ⌜
+        asRowsReply r (now (rows .exit))
+        ≡ sessionRowsReply (asForm (now («session_bytes» .entry)) (now (session .entry))) (now (rows .entry))
+        ⌝ }
 {
-    put_mapping(rows, mmu::session_rows(c_session::read_session(session)))
+    put_mapping(
+        rows,
+        mmu::session_rows(c_session::read_session(session_bytes, session)),
+    )
 }

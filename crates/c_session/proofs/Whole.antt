@@ -3,7 +3,6 @@ use Prim.Native.Nat.{ℕ}
 use mathlib.Core.Path.{_≡_, refl}
 use mathlib.Core.List.{List, [], _∷_, _++_}
 use lib.ListN.{getD}
-use Rattle.octets.specs.Read.{firstEight}
 use Rattle.session_state.specs.declared.Session.{Session}
 use Rattle.session_state.specs.declared.Stage.{Stage}
 use Rattle.c_session.specs.Writing.{stageNumber, portIn, loadNumbers, configurationNumbers, sessionNumbers}
@@ -22,13 +21,11 @@ load-whole (Stage.Jumped jump) behind = refl
 
 -- the numbers of a session, from those of its parts
 pub session-whole
-    : (s : Session) {password held load last : List ℕ} {stage port count : ℕ}
-    → password ≡ firstEight (s .configuration .password)
+    : (s : Session) {load last : List ℕ} {stage port count : ℕ}
     → stage ≡ stageNumber (s .stage)
     → port ≡ portIn (s .stage)
     → count ≡ s .count
-    → held ≡ firstEight (s .held)
     → load ≡ loadNumbers (s .stage)
     → last ≡ configurationNumbers (s .configuration)
-    → firstEight password ++ (stage ∷ port ∷ count ∷ []) ++ firstEight held ++ five load ++ (getD last 0 0 ∷ []) ≡ sessionNumbers s
-session-whole s a b c d e f g = rw (a, b, c, d, e, f, g, load-whole (s .stage) (configurationNumbers (s .configuration)))
+    → (stage ∷ port ∷ count ∷ []) ++ five load ++ (getD last 0 0 ∷ []) ≡ sessionNumbers s
+session-whole s a b c d e = rw (a, b, c, d, e, load-whole (s .stage) (configurationNumbers (s .configuration)))

@@ -1,6 +1,9 @@
--- Sessions as lists of numbers, in the order of include/boot_assist.h.
+-- Sessions as bytes and numbers, in the order of include/boot_assist.h.
 use Prim.Native.Nat.{ℕ}
 use mathlib.Core.List.{List, [], _∷_, _++_}
+use mathlib.Core.Bool.{Bool, cond, _&&_}
+use lib.Dec.{eqb}
+use lib.ListN.{length}
 use Rattle.octets.specs.Read.{firstEight}
 use Rattle.session_configuration.specs.declared.Configuration.{Configuration}
 use Rattle.session_state.specs.declared.Port.{Port}
@@ -8,7 +11,7 @@ use Rattle.session_state.specs.declared.Session.{Session}
 use Rattle.session_state.specs.declared.Stage.{Stage}
 use Rattle.session_state.specs.Accepted.{acceptedVle}
 use Rattle.session_answers.specs.Answers.{refusalNumber}
-use Rattle.c_answer.specs.Writing.{bit, enteredNumber}
+use Rattle.c_answer.specs.Writing.{Form, asForm, bit, enteredNumber}
 
 abbrev pub stageNumber : Stage → ℕ
 stageNumber Stage.Waiting = 0
@@ -45,14 +48,28 @@ loadNumbers (Stage.Jumped jump) = jump .start .0 ∷ bit (jump .vle) ∷ 0 ∷ 0
 abbrev pub configurationNumbers : Configuration → List ℕ
 configurationNumbers configuration = enteredNumber (configuration .entered) ∷ []
 
--- the numbers of a session
-abbrev pub sessionWidth : ℕ
-sessionWidth = 25
+-- a session crosses as 16 bytes, those of the password selected and those held, and as 9 numbers
+abbrev pub sessionBytes : Session → List ℕ
+sessionBytes session = firstEight (session .configuration .password) ++ firstEight (session .held)
 
 abbrev pub sessionNumbers : Session → List ℕ
 sessionNumbers session =
-    firstEight (session .configuration .password)
-    ++ (stageNumber (session .stage) ∷ portIn (session .stage) ∷ session .count ∷ [])
-    ++ firstEight (session .held)
+    (stageNumber (session .stage) ∷ portIn (session .stage) ∷ session .count ∷ [])
     ++ loadNumbers (session .stage)
     ++ configurationNumbers (session .configuration)
+
+abbrev pub sessionForm : Session → Form
+sessionForm session = asForm (sessionBytes session) (sessionNumbers session)
+
+abbrev pub sessionBytesWidth : ℕ
+sessionBytesWidth = 16
+
+abbrev pub sessionWidth : ℕ
+sessionWidth = 9
+
+-- places for a session; and a session in its places, of which other ones keep what they hold
+abbrev pub sessionPlaces : Form → Bool
+sessionPlaces form = eqb (length (form .bytes)) sessionBytesWidth && eqb (length (form .numbers)) sessionWidth
+
+unfoldable pub sessionPut : Session → Form → Form
+sessionPut session form = cond (sessionPlaces form) (sessionForm session) form

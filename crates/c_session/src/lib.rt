@@ -1,10 +1,10 @@
 // Sessions as lists of numbers, written and read, as they cross the C interface (include/boot_assist.h).
 ghost use mathlib.Core.Path.{_≡_};
-ghost use Prim.Native.Nat.{_≤_};
+ghost use lib.ListN.{length};
 ghost use Rattle.octets.specs.Same.{same};
-ghost use Rattle.buffers.specs.Write.{filled};
-ghost use Rattle.c_session.specs.Writing.{stageNumber, portNumber, portIn, loadNumbers, configurationNumbers, sessionNumbers};
-ghost use Rattle.c_session.specs.Reading.{Encoding, numberAt, byteIn, eightIn, portRead, loadRead, refusalRead, jumpRead, stageRead, configurationRead, sessionRead, unsoundSession, sessionIn};
+ghost use Rattle.c_answer.specs.Writing.{asForm};
+ghost use Rattle.c_session.specs.Writing.{stageNumber, portNumber, portIn, loadNumbers, configurationNumbers, sessionNumbers, sessionBytesWidth, sessionBytes, sessionPlaces};
+ghost use Rattle.c_session.specs.Reading.{Written, numberAt, portRead, loadRead, refusalRead, jumpRead, stageRead, configurationRead, sessionRead, unsoundSession, sessionIn};
 use session_configuration::Configuration;
 use session_state::Jump;
 use session_state::Load;
@@ -14,8 +14,17 @@ use session_state::Session;
 use session_state::Stage;
 use sram::Aligned;
 
-// How many numbers a session has.
-pub const SESSION_WIDTH: usize = 25;
+// How many bytes a session has, and how many numbers.
+pub const SESSION_BYTES: usize = 16;
+
+pub const SESSION_WIDTH: usize = 9;
+
+// Whether there are places for a session.
+pub fn has_places(bytes: &[u8], numbers: &[u32]) -> bool
+    ensures { λ r. ⌜ r ≡ sessionPlaces (asForm (now (bytes .entry)) (now (numbers .entry))) ⌝ }
+{
+    (bytes.len() == SESSION_BYTES) & (numbers.len() == SESSION_WIDTH)
+}
 
 // The number of a port.
 pub fn port_number(port: Port) -> u32
@@ -90,37 +99,17 @@ fn configuration_numbers(configuration: Configuration) -> [u32; 1]
 }
 
 // The numbers of a session.
-pub fn session_numbers(session: Session) -> [u32; SESSION_WIDTH]
-    ensures { λ r. ⌜ Encoding session r ⌝ }
+fn session_numbers(session: Session) -> [u32; SESSION_WIDTH]
+    ensures { λ r. ⌜ r ≡ sessionNumbers session ⌝ }
 {
     let stage = session.stage;
     let configuration = session.configuration;
-    let password = configuration.password;
-    let bytes = session.held;
-    let selected = c_answer::eight_numbers(password);
-    let held = c_answer::eight_numbers(bytes);
     let load = load_numbers(stage);
     let last = configuration_numbers(configuration);
     [
-        selected[0],
-        selected[1],
-        selected[2],
-        selected[3],
-        selected[4],
-        selected[5],
-        selected[6],
-        selected[7],
         stage_number(stage),
         port_in(stage),
         c_answer::wide(session.count),
-        held[0],
-        held[1],
-        held[2],
-        held[3],
-        held[4],
-        held[5],
-        held[6],
-        held[7],
         load[0],
         load[1],
         load[2],
@@ -130,12 +119,29 @@ pub fn session_numbers(session: Session) -> [u32; SESSION_WIDTH]
     ]
 }
 
-// Writes the numbers of a session over the first places of a list, or nothing where there is no room for them.
-pub fn put_session(out: &mut [u32], session: Session)
-    ensures { λ _. ⌜ now (out .exit) ≡ filled (sessionNumbers session) (now (out .entry)) ⌝ }
+// Writes the bytes of a session: the password selected, and the bytes held.
+fn put_bytes(bytes: &mut [u8], session: Session)
+    requires { ⌜ length (now bytes) ≡ sessionBytesWidth ⌝ }
+    ensures { λ _. ⌜ now (bytes .exit) ≡ sessionBytes session ⌝ }
 {
-    let written = session_numbers(session);
-    buffers::fill_words(out, &written[..]);
+    let configuration = session.configuration;
+    let selected = configuration.password;
+    let held = session.held;
+    buffers::fill(bytes, &selected[..]);
+    buffers::fill(&mut bytes[8..], &held[..]);
+}
+
+// Writes a session, where there are places for it.
+pub fn put_session(bytes: &mut [u8], numbers: &mut [u32], session: Session)
+    ensures { λ _. ⌜
+        Written session (asForm (now (bytes .entry)) (now (numbers .entry))) (asForm (now (bytes .exit)) (now (numbers .exit)))
+        ⌝ }
+{
+    if has_places(bytes, numbers) {
+        put_bytes(bytes, session);
+        let written = session_numbers(session);
+        buffers::fill_words(numbers, &written[..]);
+    }
 }
 
 // The number at a place, or 0 past the end.
@@ -148,35 +154,11 @@ pub fn number_at(numbers: &[u32], at: usize) -> u32
     numbers[at]
 }
 
-// The number at a place as a byte.
-pub fn byte_in(numbers: &[u32], at: usize) -> u8
-    ensures { λ r. ⌜ r ≡ byteIn (now (numbers .entry)) at ⌝ }
-{
-    (number_at(numbers, at) % 256) as u8
-}
-
-// Eight bytes from a place on.
-fn eight_in(numbers: &[u32], at: usize) -> [u8; 8]
-    requires { ⌜ at ≤ 11 ⌝ }
-    ensures { λ r. ⌜ r ≡ eightIn (now (numbers .entry)) at ⌝ }
-{
-    [
-        byte_in(numbers, at),
-        byte_in(numbers, at + 1),
-        byte_in(numbers, at + 2),
-        byte_in(numbers, at + 3),
-        byte_in(numbers, at + 4),
-        byte_in(numbers, at + 5),
-        byte_in(numbers, at + 6),
-        byte_in(numbers, at + 7),
-    ]
-}
-
 // The port, the load, the refusal and the jump that a stage may have.
 fn read_port(numbers: &[u32]) -> Port
     ensures { λ r. ⌜ r ≡ portRead (now (numbers .entry)) ⌝ }
 {
-    if number_at(numbers, 9) == 0 {
+    if number_at(numbers, 1) == 0 {
         return Port::Can;
     }
     Port::Serial
@@ -186,22 +168,22 @@ fn read_load(numbers: &[u32]) -> Load
     ensures { λ r. ⌜ r ≡ loadRead (now (numbers .entry)) ⌝ }
 {
     Load {
-        start: Aligned(number_at(numbers, 19)),
-        vle: number_at(numbers, 20) == 1,
-        next: number_at(numbers, 21),
-        owed: number_at(numbers, 22),
+        start: Aligned(number_at(numbers, 3)),
+        vle: number_at(numbers, 4) == 1,
+        next: number_at(numbers, 5),
+        owed: number_at(numbers, 6),
     }
 }
 
 fn read_refusal(numbers: &[u32]) -> Refusal
     ensures { λ r. ⌜ r ≡ refusalRead (now (numbers .entry)) ⌝ }
 {
-    let number = number_at(numbers, 23);
+    let number = number_at(numbers, 7);
     match number {
         2 => Refusal::Password,
         3 => Refusal::Length,
         4 => Refusal::Range,
-        _ => Refusal::FaultyByte(number_at(numbers, 20) == 1),
+        _ => Refusal::FaultyByte(number_at(numbers, 4) == 1),
     }
 }
 
@@ -209,8 +191,8 @@ fn read_jump(numbers: &[u32]) -> Jump
     ensures { λ r. ⌜ r ≡ jumpRead (now (numbers .entry)) ⌝ }
 {
     Jump {
-        start: Aligned(number_at(numbers, 19)),
-        vle: number_at(numbers, 20) == 1,
+        start: Aligned(number_at(numbers, 3)),
+        vle: number_at(numbers, 4) == 1,
     }
 }
 
@@ -218,7 +200,7 @@ fn read_jump(numbers: &[u32]) -> Jump
 fn read_stage(numbers: &[u32]) -> Stage
     ensures { λ r. ⌜ r ≡ stageRead (now (numbers .entry)) ⌝ }
 {
-    let number = number_at(numbers, 8);
+    let number = number_at(numbers, 0);
     match number {
         0 => Stage::Waiting,
         1 => Stage::Password,
@@ -229,27 +211,27 @@ fn read_stage(numbers: &[u32]) -> Stage
     }
 }
 
-// The configuration.
-fn read_configuration(numbers: &[u32]) -> Configuration
-    ensures { λ r. ⌜ r ≡ configurationRead (now (numbers .entry)) ⌝ }
+// The configuration with a password.
+fn configuration_in(selected: [u8; 8], numbers: &[u32]) -> Configuration
+    ensures { λ r. ⌜ r ≡ configurationRead selected (now (numbers .entry)) ⌝ }
 {
-    let password = eight_in(numbers, 0);
     Configuration {
-        password: password,
-        entered: c_answer::entered_of(number_at(numbers, 24)),
+        password: selected,
+        entered: c_answer::entered_of(number_at(numbers, 8)),
     }
 }
 
-// The session that numbers read as.
-fn decode(numbers: &[u32]) -> Session
-    ensures { λ r. ⌜ r ≡ sessionRead (now (numbers .entry)) ⌝ }
+// The session that bytes and numbers read as.
+fn decode(bytes: &[u8], numbers: &[u32]) -> Session
+    requires { ⌜ length (now bytes) ≡ sessionBytesWidth ⌝ }
+    ensures { λ r. ⌜ r ≡ sessionRead (asForm (now (bytes .entry)) (now (numbers .entry))) ⌝ }
 {
-    let held = eight_in(numbers, 11);
+    let held = buffers::eight_of(&bytes[8..16]);
     Session {
-        configuration: read_configuration(numbers),
+        configuration: configuration_in(buffers::eight_of(&bytes[0..8]), numbers),
         stage: read_stage(numbers),
         held: held,
-        count: byte_in(numbers, 10),
+        count: (number_at(numbers, 2) % 256) as u8,
     }
 }
 
@@ -270,23 +252,26 @@ fn is_same(a: [u32; SESSION_WIDTH], b: &[u32]) -> bool
     true
 }
 
-// A session that is not sound: waiting, with a byte held, in the configuration of the numbers.
+// A session that is not sound: waiting, with a byte held.
 fn unsound(numbers: &[u32]) -> Session
     ensures { λ r. ⌜ r ≡ unsoundSession (now (numbers .entry)) ⌝ }
 {
     Session {
-        configuration: read_configuration(numbers),
+        configuration: configuration_in([0; 8], numbers),
         stage: Stage::Waiting,
         held: [0; 8],
         count: 1,
     }
 }
 
-// The session of numbers, or one that is not sound where no session has them.
-pub fn read_session(numbers: &[u32]) -> Session
-    ensures { λ r. ⌜ r ≡ sessionIn (now (numbers .entry)) ⌝ }
+// The session of bytes and numbers, or one that is not sound where no session has them.
+pub fn read_session(bytes: &[u8], numbers: &[u32]) -> Session
+    ensures { λ r. ⌜ r ≡ sessionIn (asForm (now (bytes .entry)) (now (numbers .entry))) ⌝ }
 {
-    let read = decode(numbers);
+    if !has_places(bytes, numbers) {
+        return unsound(numbers);
+    }
+    let read = decode(bytes, numbers);
     if is_same(session_numbers(read), numbers) {
         return read;
     }

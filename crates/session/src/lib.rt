@@ -192,6 +192,7 @@ fn take(role: Role, port: Port, session: Session, sram: &mut [u8], bytes: &[u8])
     requires { ⌜ (rightSize (session .configuration) (now sram) ≡ true) × (length (now bytes) ≤ 8) × Room role session (length (now bytes)) ⌝ }
     ensures { λ r. ⌜ resultOf r (now (sram .exit)) ≡ takenAs role port session (now (sram .entry)) (now (bytes .entry)) ⌝ }
 {
+    store_data(role, session, sram, bytes);
     let next = receive(role, session, port, bytes);
     let outcome = next.outcome;
     let moved = next.session;
@@ -199,7 +200,6 @@ fn take(role: Role, port: Port, session: Session, sram: &mut [u8], bytes: &[u8])
         outcome: outcome,
         echo: session_answers::echo_of(role, port, bytes),
     };
-    store_data(role, session, sram, bytes);
     StepResult {
         answer: answer,
         session: moved,

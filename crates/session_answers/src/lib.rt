@@ -2,7 +2,7 @@
 // before the session's rules.
 ghost use mathlib.Core.Path.{_≡_};
 ghost use lib.ListN.{take};
-ghost use Rattle.session_answers.specs.Answers.{refusalNumber, faultNumber, outcomeNumber, precheck, underPort, echoUnder, noEcho, echoIdentifier, echoOf, nothingTaken};
+ghost use Rattle.session_answers.specs.Answers.{refusalNumber, faultNumber, outcomeNumber, precheck, underPort, echoUnder, noEcho, echoIdentifier, echoOf, withoutEcho, nothingTaken};
 use session_items::Role;
 use session_state::Jump;
 use session_state::Port;
@@ -100,7 +100,7 @@ fn under_port(port: Port, identifier: u32) -> u32
 fn echo_under(identifier: u32, bytes: &[u8]) -> Echo
     ensures { λ r. ⌜ r ≡ echoUnder identifier (take 8 (now (bytes .entry))) ⌝ }
 {
-    let all = octets::first_eight(bytes);
+    let all = buffers::eight_of(bytes);
     Echo {
         identifier: identifier,
         length: octets::least(8, bytes.len()) as u8,
@@ -137,16 +137,21 @@ pub fn echo_of(role: Role, port: Port, bytes: &[u8]) -> Echo
     echo_under(under_port(port, echo_identifier(role)), bytes)
 }
 
-// No echo, and the session that the step leaves.
+// An answer without an echo, and the session that the step leaves.
+pub fn without_echo(outcome: Outcome) -> Answer
+    ensures { λ r. ⌜ r ≡ withoutEcho outcome ⌝ }
+{
+    Answer {
+        outcome: outcome,
+        echo: no_echo(),
+    }
+}
+
 pub fn take_nothing(session: Session, outcome: Outcome) -> StepResult
     ensures { λ r. ⌜ r ≡ nothingTaken outcome session ⌝ }
 {
-    let answer = Answer {
-        outcome: outcome,
-        echo: no_echo(),
-    };
     StepResult {
-        answer: answer,
+        answer: without_echo(outcome),
         session: session,
     }
 }

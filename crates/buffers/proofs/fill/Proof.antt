@@ -1,7 +1,5 @@
 -- `buffers::fill` meets its contract: with room, and without.
-use native.Mathlib.Omega.{arith}
 use lib.ListN.{length}
-use lib.Seq.{take-all}
 use denote.Ref.{now}
 use borrow.Author.Needs.{needs}
 use borrow.Author.Tests.{le-leb, lt-leb}
@@ -9,8 +7,8 @@ use Rattle.buffers.specs.Write.{filled}
 use Rattle.buffers.proofs.fill.Statement.{statement}
 use Rattle.buffers.proofs.fill.Tie as tie
 
-copy-requires : tie.Need-copy-requires
-copy-requires c κs = search needs
+copy-bytes-requires : tie.Need-copy-bytes-requires
+copy-bytes-requires c κs = search needs
 
 same-length : tie.Need-same-length
 same-length c = search needs
@@ -26,7 +24,7 @@ unfolding filled
 returns c =
     let test = c .before .before .before .before in
     let a = test .before .before .before .args in
-    rw (c .before .before .copy .ensures .1, take-all (length (now (a .bytes))) (now (a .bytes)) (omega arith), le-leb (length (now (a .bytes))) (length (now (a .out))) (test .if1 .taken))
+    rw (c .before .before .copy-bytes .ensures, le-leb (length (now (a .bytes))) (length (now (a .out))) (test .if1 .taken))
 
 pub fill-spec : {M : Type 1} → statement M
-fill-spec = tie.close (tie.spec copy-requires same-length returns returns-2)
+fill-spec = tie.close (tie.spec copy-bytes-requires same-length returns returns-2)

@@ -1,5 +1,4 @@
--- `c_items::item_precheck` meets its contract: the item's precheck, then the room for its answer.
-use borrow.Author.Tests.{eq-eqb, ne-eqb}
+-- `c_items::item_precheck` meets its contract: the precheck, then the places for an answer.
 use borrow.Author.Needs.{needs}
 use Rattle.c_items.specs.Calls.{itemPrecheck}
 use Rattle.c_items.proofs.item_precheck.Statement.{statement}
@@ -27,13 +26,13 @@ returns-2 : tie.Need-returns-2
 unfolding itemPrecheck
 returns-2 c =
     let first = c .before in
-    rw (← first .before .before .precheck .ensures, first .enum-told .given .1, eq-eqb _ _ (c .if1 .taken))
+    rw (← first .before .before .precheck .ensures, first .enum-told .given .1, c .if1 .taken)
 
 returns-3 : tie.Need-returns-3
 unfolding itemPrecheck
 returns-3 c =
     let first = c .before in
-    rw (← first .before .before .precheck .ensures, first .enum-told .given .1, ne-eqb _ _ (c .if1 .left))
+    rw (← first .before .before .precheck .ensures, first .enum-told .given .1, c .if1 .left)
 
 pub item-precheck-spec : {M : Type 1} → statement M
 item-precheck-spec =

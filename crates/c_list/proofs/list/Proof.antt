@@ -1,18 +1,25 @@
--- `c_list::list` meets its contract: a refused list, or the list's session written.
+-- `c_list::list` meets its contract: what is due is answered, or lists that fit are run.
+use mathlib.Core.Path.{_≡_, sym, _∙_}
+use lib.ListN.{length}
 use denote.Ref.{now}
-use borrow.Author.Tests.{eq-eqb, ne-eqb}
 use borrow.Author.Needs.{needs}
-use Rattle.c_session.proofs.Lengths.{put-whole}
-use Rattle.c_list.specs.Calls.{listReply}
-use Rattle.c_list.proofs.Laws.{list-length}
+use Rattle.session_answers.specs.declared.Prechecked.{Prechecked}
+use Rattle.session_answers.specs.Answers.{precheck}
+use Rattle.c_answer.specs.Writing.{asForm}
+use Rattle.c_session.specs.Reading.{sessionIn}
+use Rattle.c_list.specs.Calls.{listFits}
+use Rattle.c_list.proofs.Claiming.{passes, refused-list, ran-list}
 use Rattle.c_list.proofs.list.Statement.{statement}
 use Rattle.c_list.proofs.list.Tie as tie
+
+list-fits-requires : tie.Need-list-fits-requires
+list-fits-requires c κs = search needs
 
 read-session-requires : tie.Need-read-session-requires
 read-session-requires c κs = search needs
 
-run-requires : tie.Need-run-requires
-run-requires c κs = search needs
+item-precheck-requires : tie.Need-item-precheck-requires
+item-precheck-requires c κs = search needs
 
 same-length : tie.Need-same-length
 same-length c = search needs
@@ -24,16 +31,24 @@ same-length-3 : tie.Need-same-length-3
 same-length-3 c = search needs
 
 returns : tie.Need-returns
-unfolding listReply
 returns c =
-    let ran = c .before .before .before .before .before in
-    rw (
-      ← rw (ran .before .before .before .read-session .ensures) at (ran .run .ensures .equation),
-      ne-eqb _ _ (c .if1 .taken),
-    )
+    let first = c .before in
+    let fits = first .before .before .before .before .before in
+    let a = fits .before .before .before .before .before .before .before .before .before .before .args in
+    refused-list (asForm (now (a .session-bytes)) (now (a .session))) (now (a .sram)) (now (a .kinds)) (now (a .identifiers)) (now (a .counts)) (now (a .bytes)) (asForm (now (a .echoes)) (now (a .answers))) _
+    (rw (first .before .before .read-session .ensures, fits .list-fits .ensures) at (first .item-precheck .ensures)) (c .if1 .taken)
 
-put-session-requires : tie.Need-put-session-requires
-put-session-requires c κs = search needs
+nothing-due : (c : tie.Else1)
+    → precheck (sessionIn (asForm (now (c .before .before .before .before .before .before .before .before .before .before .before .before .before .before .before .before .args .session-bytes)) (now (c .before .before .before .before .before .before .before .before .before .before .before .before .before .before .before .before .args .session)))) (now (c .before .before .before .before .before .before .before .before .before .before .before .before .before .before .before .before .args .sram))
+    (listFits (now (c .before .before .before .before .before .before .before .before .before .before .before .before .before .before .before .before .args .kinds)) (now (c .before .before .before .before .before .before .before .before .before .before .before .before .before .before .before .before .args .identifiers)) (now (c .before .before .before .before .before .before .before .before .before .before .before .before .before .before .before .before .args .counts)) (length (now (c .before .before .before .before .before .before .before .before .before .before .before .before .before .before .before .before .args .bytes))) (length (now (c .before .before .before .before .before .before .before .before .before .before .before .before .before .before .before .before .args .echoes))) (length (now (c .before .before .before .before .before .before .before .before .before .before .before .before .before .before .before .before .args .answers))))
+    ≡ Prechecked.Passed
+nothing-due c =
+    let first = c .before in
+    let fits = first .before .before .before .before .before in
+    passes _ _ _ (rw (first .before .before .read-session .ensures, fits .list-fits .ensures) at (sym (first .item-precheck .ensures) ∙ c .if1 .left))
+
+run-items-requires : tie.Need-run-items-requires
+run-items-requires c κs = nothing-due (c .before .before .before .before .before)
 
 same-length-4 : tie.Need-same-length-4
 same-length-4 c = search needs
@@ -44,37 +59,35 @@ same-length-5 c = search needs
 same-length-6 : tie.Need-same-length-6
 same-length-6 c = search needs
 
--- a list that ran has room for its session
+same-length-7 : tie.Need-same-length-7
+same-length-7 c = search needs
+
+same-length-8 : tie.Need-same-length-8
+same-length-8 c = search needs
+
 returns-2 : tie.Need-returns-2
-unfolding listReply
 returns-2 c =
-    let put = c .before .before in
-    let zero = put .before .before .before in
-    let ran = zero .before .before .before .before .before in
-    let read = ran .before .before .before in
-    let a = read .before .before .before .before .before .before .before .before .before .args in
-    let equation = rw (read .read-session .ensures) at (ran .run .ensures .equation) in
-    let room = list-length (now (a .session)) (now (a .sram)) (now (a .kinds)) (now (a .identifiers)) (now (a .counts)) (now (a .bytes)) (now (a .answers)) _ equation (zero .if1 .left) in
-    rw (
-      ← equation,
-      eq-eqb _ _ (zero .if1 .left),
-      put .put-session .ensures,
-      put-whole _ _ room,
-      zero .if1 .left,
-    )
+    let ran = c .before .before .before .before .before .before .before .before .before .before in
+    let test = ran .before .before .before .before .before .before in
+    let a = test .before .before .before .before .before .before .before .before .before .before .before .before .before .before .before .before .args in
+    ran-list (asForm (now (a .session-bytes)) (now (a .session))) (now (a .sram)) (now (a .kinds)) (now (a .identifiers)) (now (a .counts)) (now (a .bytes)) (asForm (now (a .echoes)) (now (a .answers))) _
+    (nothing-due test) (ran .run-items .ensures)
 
 pub list-spec : {M : Type 1} → statement M
 list-spec =
     tie.close
     (tie.spec
+    list-fits-requires
     read-session-requires
-    run-requires
+    item-precheck-requires
     same-length
     same-length-2
     same-length-3
     returns
-    put-session-requires
+    run-items-requires
     same-length-4
     same-length-5
     same-length-6
+    same-length-7
+    same-length-8
     returns-2)

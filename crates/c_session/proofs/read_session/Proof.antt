@@ -1,18 +1,55 @@
--- `c_session::read_session` meets its contract: the numbers are those of the session read, or they are not.
+-- `c_session::read_session` meets its contract: there are no places for a session, or the numbers are those of the session read, or they are not.
 use Prim.Native.Nat.{ℕ}
 use mathlib.Core.Path.{_≡_, sym, ap, _∙_}
 use mathlib.Core.List.{List}
-use mathlib.Core.Bool.{Bool}
+use mathlib.Core.Bool.{Bool, true, false, cond}
+use denote.Ref.{now}
+use borrow.Author.Tests.{not-true, not-false}
 use borrow.Author.Needs.{needs}
 use Rattle.octets.specs.Same.{same}
 use Rattle.session_state.specs.declared.Session.{Session}
-use Rattle.c_session.specs.Writing.{sessionNumbers}
-use Rattle.c_session.specs.Reading.{sessionRead, encodes, sessionIn}
+use Rattle.c_answer.specs.Writing.{Form, asForm}
+use Rattle.c_session.specs.Writing.{sessionNumbers, sessionPlaces}
+use Rattle.c_session.specs.Reading.{sessionRead, encodes, unsoundSession, sessionIn}
+use Rattle.c_session.proofs.Lengths.{places}
 use Rattle.c_session.proofs.read_session.Statement.{statement}
 use Rattle.c_session.proofs.read_session.Tie as tie
 
+-- without places no session is read
+unplaced : (form : Form) {r : Session} → sessionPlaces form ≡ false → r ≡ unsoundSession (form .numbers) → r ≡ sessionIn form
+unfolding sessionIn encodes
+unplaced form e f = rw e f
+
+-- with them the comparison tells
+compared : (form : Form) {written : List ℕ} {read r : Session} {b : Bool} → sessionPlaces form ≡ true
+    → b ≡ same written (form .numbers)
+    → written ≡ sessionNumbers read
+    → read ≡ sessionRead form
+    → (t : Bool)
+    → b ≡ t
+    → r ≡ cond t (sessionRead form) (unsoundSession (form .numbers))
+    → r ≡ sessionIn form
+unfolding sessionIn encodes
+compared form there e f g t h k =
+    let told : same (sessionNumbers (sessionRead form)) (form .numbers) ≡ t = sym (ap (λ w. same w (form .numbers)) (f ∙ ap sessionNumbers g)) ∙ sym e ∙ h in
+    rw (there, told) k
+
+has-places-requires : tie.Need-has-places-requires
+has-places-requires c κs = search needs
+
+unsound-requires : tie.Need-unsound-requires
+unsound-requires c κs = search needs
+
+returns : tie.Need-returns
+returns c =
+    let test = c .before in
+    let form = asForm (now (test .before .before .before .before .args .bytes)) (now (test .before .before .before .before .args .numbers)) in
+    unplaced form (sym (test .before .has-places .ensures) ∙ not-true (test .before .has-places .result) (test .if1 .taken)) (c .unsound .ensures)
+
 decode-requires : tie.Need-decode-requires
-decode-requires c κs = search needs
+decode-requires c κs =
+    let a = c .before .before .before .before .args in
+    places (now (a .bytes)) (now (a .numbers)) (sym (c .before .has-places .ensures) ∙ not-false (c .before .has-places .result) (c .if1 .left)) .0
 
 session-numbers-requires : tie.Need-session-numbers-requires
 session-numbers-requires c κs = search needs
@@ -20,45 +57,38 @@ session-numbers-requires c κs = search needs
 is-same-requires : tie.Need-is-same-requires
 is-same-requires c κs = search needs
 
--- what the comparison says
-compared : (numbers written : List ℕ) (read : Session) (b : Bool) → b ≡ same written numbers
-    → written ≡ sessionNumbers read
-    → read ≡ sessionRead numbers
-    → encodes numbers ≡ b
-unfolding encodes
-compared numbers written read b e f g = sym (e ∙ ap (λ w. same w numbers) (f ∙ ap sessionNumbers g))
-
-returns : tie.Need-returns
-unfolding sessionIn
-returns c =
-    let written = c .before .before in
-    rw (
-      compared _ _ _ _ (c .before .is-same .ensures) (written .session-numbers .ensures .equation) (written .before .decode .ensures),
-      c .if1 .taken,
-    )
-    (written .before .decode .ensures)
-
-unsound-requires : tie.Need-unsound-requires
-unsound-requires c κs = search needs
-
 returns-2 : tie.Need-returns-2
-unfolding sessionIn
 returns-2 c =
-    let test = c .before in
-    let written = test .before .before in
-    rw (
-      compared _ _ _ _ (test .before .is-same .ensures) (written .session-numbers .ensures .equation) (written .before .decode .ensures),
-      test .if1 .left,
-    )
-    (c .unsound .ensures)
+    let written = c .before .before in
+    let read = written .before in
+    let test = read .before in
+    let a = test .before .before .before .before .args in
+    compared (asForm (now (a .bytes)) (now (a .numbers))) (sym (test .before .has-places .ensures) ∙ not-false (test .before .has-places .result) (test .if1 .left))
+    (c .before .is-same .ensures) (written .session-numbers .ensures) (read .decode .ensures) true (c .if2 .taken) (read .decode .ensures)
+
+unsound-requires-2 : tie.Need-unsound-requires-2
+unsound-requires-2 c κs = search needs
+
+returns-3 : tie.Need-returns-3
+returns-3 c =
+    let compare = c .before in
+    let written = compare .before .before in
+    let read = written .before in
+    let test = read .before in
+    let a = test .before .before .before .before .args in
+    compared (asForm (now (a .bytes)) (now (a .numbers))) (sym (test .before .has-places .ensures) ∙ not-false (test .before .has-places .result) (test .if1 .left))
+    (compare .before .is-same .ensures) (written .session-numbers .ensures) (read .decode .ensures) false (compare .if2 .left) (c .unsound2 .ensures)
 
 pub read-session-spec : {M : Type 1} → statement M
 read-session-spec =
     tie.close
     (tie.spec
+    has-places-requires
+    unsound-requires
+    returns
     decode-requires
     session-numbers-requires
     is-same-requires
-    returns
-    unsound-requires
-    returns-2)
+    returns-2
+    unsound-requires-2
+    returns-3)

@@ -6,14 +6,14 @@ use borrow.Author.Needs.{needs}
 use Rattle.session.proofs.take.Statement.{statement}
 use Rattle.session.proofs.take.Tie as tie
 
+store-data-requires : tie.Need-store-data-requires
+store-data-requires c κs = search needs
+
 receive-requires : tie.Need-receive-requires
 receive-requires c κs = search needs
 
 echo-of-requires : tie.Need-echo-of-requires
 echo-of-requires c κs = search needs
-
-store-data-requires : tie.Need-store-data-requires
-store-data-requires c κs = search needs
 
 same-length : tie.Need-same-length
 same-length c = search needs
@@ -21,13 +21,12 @@ same-length c = search needs
 returns : tie.Need-returns
 unfolding takenAs
 returns c =
-    let stored = c .before .before in
-    let echo = stored .before .before in
-    let receive = echo .before .before in
-    let start = receive .before .before .before in
+    let receive = c .before .before in
+    let stored = receive .before .before .before in
+    let start = stored .before .before .before .before in
     let all = take-all 8 (now (start .args .bytes)) (start .pre .1) in
-    rw (stored .store-data .ensures, echo .echo-of .ensures, all, receive .receive .ensures)
+    rw (c .echo-of .ensures, all, receive .receive .ensures, stored .store-data .ensures)
 
 pub take-spec : {M : Type 1} → statement M
 take-spec =
-    tie.close (tie.spec receive-requires echo-of-requires store-data-requires same-length returns)
+    tie.close (tie.spec store-data-requires receive-requires echo-of-requires same-length returns)

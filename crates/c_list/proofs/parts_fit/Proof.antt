@@ -1,4 +1,4 @@
--- `session_list::parts_fit` meets its contract: with i items looked at, all fit when the rest fit the bytes that are left.
+-- `c_list::parts_fit` meets its contract: with i items looked at, all fit when the rest fit the bytes that are left.
 use Prim.Native.Nat.{_≤_, _-_}
 use native.Mathlib.Omega.{arith}
 use mathlib.Core.Path.{_≡_, refl, sym, _∙_}
@@ -7,10 +7,10 @@ use lib.ListN.{length, drop, drop-of-length-le, getD}
 use denote.Ref.{now}
 use borrow.Author.Needs.{needs}
 use borrow.Author.Tests.{not-true, not-false, lt-leb, le-leb}
-use Rattle.session_list.specs.Listing.{partsFit}
-use Rattle.session_list.proofs.Handing.{parts-next}
-use Rattle.session_list.proofs.parts_fit.Statement.{statement}
-use Rattle.session_list.proofs.parts_fit.Tie as tie
+use Rattle.c_list.specs.Calls.{partsFit}
+use Rattle.c_list.proofs.Handing.{parts-next}
+use Rattle.c_list.proofs.parts_fit.Statement.{statement}
+use Rattle.c_list.proofs.parts_fit.Tie as tie
 
 abbrev Inv-loop : tie.InvT-loop
 Inv-loop kinds counts total left₀ i₀ left i =
