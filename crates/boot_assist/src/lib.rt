@@ -134,42 +134,64 @@ pub extern "C" fn boot_assist_flat_list(
 // Begins a load.
 #[no_mangle]
 pub extern "C" fn boot_assist_flat_begin(
-    port: u8,
+    port: u32,
     start: u32,
     vle: u8,
     password: &[u8],
     image: &[u8],
+    sender_bytes: &mut [u8],
     sender: &mut [u32],
 ) -> u8
-    ensures { λ r. ⌜ asBeginReply r (now (sender .exit)) ≡ replyToBegin port start vle (now (password .entry)) (now (image .entry)) (now (sender .entry)) ⌝ }
+    ensures { λ r. ⌜
+        asBeginReply r (asForm (now («sender_bytes» .exit)) (now (sender .exit)))
+        ≡ replyToBegin port start vle (now (password .entry)) (now (image .entry)) (asForm (now («sender_bytes» .entry)) (now (sender .entry)))
+        ⌝ }
 {
-    c_load::begin(port, start, vle, password, image, sender)
+    c_load::begin(port, start, vle, password, image, sender_bytes, sender)
 }
 
 // Asks for the next item of a load.
 #[no_mangle]
-pub extern "C" fn boot_assist_flat_ask(sender: &mut [u32], image: &[u8], item: &mut [u32]) -> u8
-    ensures { λ r. ⌜ asAskReply r (now (sender .exit)) (now (item .exit)) ≡ replyToAsk (now (sender .entry)) (now (image .entry)) (now (item .entry)) ⌝ }
+pub extern "C" fn boot_assist_flat_ask(
+    sender_bytes: &mut [u8],
+    sender: &mut [u32],
+    image: &[u8],
+    item_bytes: &mut [u8],
+    item: &mut [u32],
+) -> u8
+    ensures { λ r. ⌜
+        asAskReply r (asForm (now («sender_bytes» .exit)) (now (sender .exit))) (asForm (now («item_bytes» .exit)) (now (item .exit)))
+        ≡ replyToAsk (asForm (now («sender_bytes» .entry)) (now (sender .entry))) (now (image .entry)) (asForm (now («item_bytes» .entry)) (now (item .entry)))
+        ⌝ }
 {
-    c_load::ask(sender, image, item)
+    c_load::ask(sender_bytes, sender, image, item_bytes, item)
 }
 
 // Tells a sender what was heard.
 #[no_mangle]
 pub extern "C" fn boot_assist_flat_tell(
+    sender_bytes: &mut [u8],
     sender: &mut [u32],
     image: &[u8],
-    port: u8,
+    port: u32,
     identifier: u32,
     bytes: &[u8],
     verdict: &mut u8,
 ) -> u8
     ensures { λ r. ⌜
-        asTellReply r (now (sender .exit)) (now (verdict .exit))
-        ≡ replyToTell (now (sender .entry)) (now (image .entry)) port identifier (now (bytes .entry)) (now (verdict .entry))
+        asTellReply r (asForm (now («sender_bytes» .exit)) (now (sender .exit))) (now (verdict .exit))
+        ≡ replyToTell (asForm (now («sender_bytes» .entry)) (now (sender .entry))) (now (image .entry)) port identifier (now (bytes .entry)) (now (verdict .entry))
         ⌝ }
 {
-    c_load::tell(sender, image, port, identifier, bytes, verdict)
+    c_load::tell(
+        sender_bytes,
+        sender,
+        image,
+        port,
+        identifier,
+        bytes,
+        verdict,
+    )
 }
 
 // The record at a place of a capture.

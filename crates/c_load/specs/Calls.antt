@@ -1,4 +1,4 @@
--- The calls of a sender as C sees them (include/boot_assist.h): senders and items are lists of numbers, and memory is lent.
+-- The calls of a sender as C sees them (include/boot_assist.h): senders and items are bytes and numbers, and memory is lent.
 use Prim.Native.Nat.{ℕ}
 use mathlib.Core.List.{List}
 use mathlib.Core.Bool.{cond, _&&_}
@@ -11,75 +11,74 @@ use Rattle.sender.specs.declared.BeginResult.{BeginResult}
 use Rattle.sender.specs.declared.TellResult.{TellResult}
 use Rattle.sender.specs.declared.TellAnswer.{TellAnswer}
 use Rattle.sender.specs.Calls.{begunNumber, askedNumber, toldNumber, idle, loadBegun, asked, told}
-use Rattle.c_sender.specs.Numbers.{senderWidth, senderNumbers, flagOf, portFor, senderRead, itemWidth, itemNumbers, verdictNumber}
+use Rattle.c_answer.specs.Writing.{Form}
+use Rattle.c_sender.specs.Numbers.{senderPlaces, senderForm, flagOf, portFor, senderRead, itemPlaces, itemForm, verdictNumber}
 
--- beginning: its number, and the numbers of the sender as it leaves them
+-- beginning: its number, and the sender as it leaves it
 pub record BeginReply : Type 0 where
   pub number : ℕ
-  pub sender : List ℕ
+  pub sender : Form
 
-abbrev pub asBeginReply : ℕ → List ℕ → BeginReply
+abbrev pub asBeginReply : ℕ → Form → BeginReply
 asBeginReply number sender = record { number = number; sender = sender }
 
 abbrev pub beginLeaves : BeginResult → BeginReply
-beginLeaves result = asBeginReply (begunNumber (result .answer)) (senderNumbers (result .sender))
+beginLeaves result = asBeginReply (begunNumber (result .answer)) (senderForm (result .sender))
 
--- 9 for a sender that has not 15 numbers; 9 for a number that is no port's and a password of another length than 8, which leave no load going
-unfoldable pub replyToBegin : ℕ → ℕ → ℕ → List ℕ → List ℕ → List ℕ → BeginReply
+-- 9 for a sender of another length; 9 for a number that is no port's and a password of another length than 8, which leave no load going
+unfoldable pub replyToBegin : ℕ → ℕ → ℕ → List ℕ → List ℕ → Form → BeginReply
 replyToBegin port start vle password image sender =
-    cond (eqb (length sender) senderWidth)
+    cond (senderPlaces sender)
     (cond (leb port 1 && eqb (length password) 8)
     (beginLeaves (loadBegun (portFor port) start (flagOf vle) (firstEight password) (length image)))
-    (asBeginReply 9 (senderNumbers idle)))
+    (asBeginReply 9 (senderForm idle)))
     (asBeginReply 9 sender)
 
--- asking: its number, and the numbers of the sender and of the item as it leaves them
+-- asking: its number, and the sender and the item as it leaves them
 pub record AskReply : Type 0 where
   pub number : ℕ
-  pub sender : List ℕ
-  pub item : List ℕ
+  pub sender : Form
+  pub item : Form
 
-abbrev pub asAskReply : ℕ → List ℕ → List ℕ → AskReply
+abbrev pub asAskReply : ℕ → Form → Form → AskReply
 asAskReply number sender item = record { number = number; sender = sender; item = item }
 
--- what is given is written where an item has its 11 numbers; otherwise nothing is
-abbrev pub askLeaves : AskResult → List ℕ → List ℕ → AskReply
+-- what is given is written, unless the item is of another length; otherwise nothing is
+abbrev pub askLeaves : AskResult → Form → Form → AskReply
 askLeaves result sender item =
     cond (eqb (askedNumber (result .answer)) 0)
-    (cond (eqb (length item) itemWidth)
-    (asAskReply 0 (senderNumbers (result .sender)) (itemNumbers (result .sent)))
+    (cond (itemPlaces item)
+    (asAskReply 0 (senderForm (result .sender)) (itemForm (result .sent)))
     (asAskReply 9 sender item))
     (asAskReply (askedNumber (result .answer)) sender item)
 
--- 8 for a sender that has not 15 numbers
-unfoldable pub replyToAsk : List ℕ → List ℕ → List ℕ → AskReply
+-- 8 for a sender of another length
+unfoldable pub replyToAsk : Form → List ℕ → Form → AskReply
 replyToAsk sender image item =
-    cond (eqb (length sender) senderWidth)
-    (askLeaves (asked (senderRead sender) image) sender item)
-    (asAskReply 8 sender item)
+    cond (senderPlaces sender) (askLeaves (asked (senderRead sender) image) sender item) (asAskReply 8 sender item)
 
--- telling: its number, and the numbers of the sender and of the verdict as it leaves them
+-- telling: its number, and the sender and the verdict's number as it leaves them
 pub record TellReply : Type 0 where
   pub number : ℕ
-  pub sender : List ℕ
+  pub sender : Form
   pub verdict : ℕ
 
-abbrev pub asTellReply : ℕ → List ℕ → ℕ → TellReply
+abbrev pub asTellReply : ℕ → Form → ℕ → TellReply
 asTellReply number sender verdict = record { number = number; sender = sender; verdict = verdict }
 
 -- a verdict is written, unless the number is no port's; otherwise nothing is
-abbrev pub tellLeaves : TellAnswer → Sender → ℕ → List ℕ → ℕ → TellReply
+abbrev pub tellLeaves : TellAnswer → Sender → ℕ → Form → ℕ → TellReply
 tellLeaves (TellAnswer.Says verdict) next port sender before =
-    cond (leb port 1) (asTellReply 0 (senderNumbers next) (verdictNumber verdict)) (asTellReply 9 sender before)
+    cond (leb port 1) (asTellReply 0 (senderForm next) (verdictNumber verdict)) (asTellReply 9 sender before)
 tellLeaves TellAnswer.Ignored next port sender before = asTellReply (toldNumber TellAnswer.Ignored) sender before
 tellLeaves TellAnswer.Unsound next port sender before = asTellReply (toldNumber TellAnswer.Unsound) sender before
 
-abbrev pub tellResultLeaves : TellResult → ℕ → List ℕ → ℕ → TellReply
+abbrev pub tellResultLeaves : TellResult → ℕ → Form → ℕ → TellReply
 tellResultLeaves result port sender before = tellLeaves (result .answer) (result .sender) port sender before
 
--- 8 for a sender that has not 15 numbers
-unfoldable pub replyToTell : List ℕ → List ℕ → ℕ → ℕ → List ℕ → ℕ → TellReply
+-- 8 for a sender of another length
+unfoldable pub replyToTell : Form → List ℕ → ℕ → ℕ → List ℕ → ℕ → TellReply
 replyToTell sender image port identifier bytes before =
-    cond (eqb (length sender) senderWidth)
+    cond (senderPlaces sender)
     (tellResultLeaves (told (senderRead sender) image (portFor port) identifier bytes) port sender before)
     (asTellReply 8 sender before)

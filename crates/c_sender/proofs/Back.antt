@@ -1,16 +1,16 @@
--- The numbers of a sender, read again.
+-- The bytes and numbers of a sender, read again.
 use Prim.Native.Nat.{ℕ}
 use mathlib.Core.Path.{_≡_, refl, sym, ap, _∙_}
-use mathlib.Core.List.{List}
+use mathlib.Core.List.{List, append-nil}
 use mathlib.Core.Bool.{Bool, true, false}
 use lib.ListN.{length}
 use Rattle.session_state.specs.declared.Port.{Port}
-use Rattle.c_answer.specs.Writing.{bit}
+use Rattle.buffers.proofs.Eight.{eight-whole}
+use Rattle.c_answer.specs.Writing.{Form, bit}
 use Rattle.c_session.specs.Writing.{portNumber}
-use Rattle.c_session.proofs.Back.{Bytes, eight-back}
 use Rattle.sender_load.specs.declared.Sender.{Sender}
 use Rattle.sender.specs.Calls.{headWith}
-use Rattle.c_sender.specs.Numbers.{SenderEncoding, senderNumbers, flagOf, portFor, senderRead}
+use Rattle.c_sender.specs.Numbers.{SenderEncoding, senderForm, flagOf, portFor, senderRead}
 
 flag-back : (flag : Bool) → flagOf (bit flag) ≡ flag
 flag-back true = refl
@@ -20,13 +20,13 @@ port-back : (port : Port) → portFor (portNumber port) ≡ port
 port-back Port.Can = refl
 port-back Port.Serial = refl
 
-sender-back : (s : Sender) → length (s .configuration .password) ≡ 8 → Bytes (s .configuration .password)
+sender-back : (s : Sender) → length (s .configuration .password) ≡ 8
     → s .configuration ≡ headWith (s .configuration .password)
-    → senderRead (senderNumbers s) ≡ s
-sender-back s eight bytes known =
+    → senderRead (senderForm s) ≡ s
+sender-back s eight known =
     λ i. record {
       going = flag-back (s .going) i;
-      configuration = (ap headWith (eight-back (s .configuration .password) eight bytes) ∙ sym known) i;
+      configuration = (ap headWith (eight-whole (s .configuration .password) eight) ∙ sym known) i;
       port = port-back (s .port) i;
       start = s .start;
       vle = flag-back (s .vle) i;
@@ -35,8 +35,5 @@ sender-back s eight bytes known =
       out = flag-back (s .out) i;
     }
 
-pub sender-encoding : (s : Sender) {r : List ℕ} → r ≡ senderNumbers s → length (s .configuration .password) ≡ 8
-    → Bytes (s .configuration .password)
-    → SenderEncoding s r
-sender-encoding s e eight bytes =
-    record { equation = e; reads-back = λ known. ap senderRead e ∙ sender-back s eight bytes known }
+pub sender-encoding : (s : Sender) {r : Form} → r ≡ senderForm s → length (s .configuration .password) ≡ 8 → SenderEncoding s r
+sender-encoding s e eight = record { equation = e; reads-back = λ known. ap senderRead e ∙ sender-back s eight known }

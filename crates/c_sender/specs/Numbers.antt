@@ -1,74 +1,81 @@
--- Senders and the items that they give as lists of numbers, in the order of include/boot_assist.h.
+-- Senders and the items that they give as bytes and numbers, in the order of include/boot_assist.h.
 use Prim.Native.Nat.{ℕ}
 use mathlib.Core.Path.{_≡_}
-use mathlib.Core.List.{List, [], _∷_, _++_}
-use mathlib.Core.Bool.{Bool, cond, not}
+use mathlib.Core.List.{List, [], _∷_}
+use mathlib.Core.Bool.{Bool, cond, not, _&&_}
 use lib.Dec.{eqb}
+use lib.ListN.{length}
 use Rattle.octets.specs.Read.{firstEight}
 use Rattle.session_state.specs.declared.Port.{Port}
 use Rattle.session_items.specs.declared.Source.{Source}
 use Rattle.session_items.specs.Items.{portFrom}
-use Rattle.c_answer.specs.Writing.{bit}
+use Rattle.c_answer.specs.Writing.{Form, asForm, bit}
 use Rattle.c_session.specs.Writing.{portNumber}
-use Rattle.c_session.specs.Reading.{numberAt, eightIn}
+use Rattle.c_session.specs.Reading.{numberAt}
 use Rattle.sender_load.specs.declared.Sender.{Sender}
 use Rattle.sender_load.specs.declared.Sent.{Sent}
 use Rattle.sender.specs.declared.Verdict.{Verdict}
 use Rattle.sender.specs.Calls.{headWith}
 
--- the numbers of a sender
-abbrev pub senderWidth : ℕ
-senderWidth = 15
+-- a sender is 8 bytes and 7 numbers
+abbrev pub senderPlaces : Form → Bool
+senderPlaces given = eqb (length (given .bytes)) 8 && eqb (length (given .numbers)) 7
 
+-- its numbers; its bytes are those of the password
 abbrev pub senderNumbers : Sender → List ℕ
 senderNumbers sender =
-    (bit (sender .going) ∷ [])
-    ++ firstEight (sender .configuration .password)
-    ++ (portNumber (sender .port)
+    bit (sender .going)
+    ∷ portNumber (sender .port)
     ∷ sender .start
     ∷ bit (sender .vle)
     ∷ sender .length
     ∷ sender .place
     ∷ bit (sender .out)
-    ∷ [])
+    ∷ []
 
--- and back: every list of numbers is read as a sender. A flag is set unless its number is 0, and the port is serial unless its number is 0.
+abbrev pub senderForm : Sender → Form
+senderForm sender = asForm (sender .configuration .password) (senderNumbers sender)
+
+-- and back: all bytes and numbers are read as a sender. A flag is set unless its number is 0, and the port is serial unless its number is 0.
 abbrev pub flagOf : ℕ → Bool
 flagOf number = not (eqb number 0)
 
 abbrev pub portFor : ℕ → Port
 portFor number = cond (eqb number 0) Port.Can Port.Serial
 
-abbrev pub senderRead : List ℕ → Sender
-senderRead numbers =
+abbrev pub senderRead : Form → Sender
+senderRead given =
     record {
-      going = flagOf (numberAt numbers 0);
-      configuration = headWith (eightIn numbers 1);
-      port = portFor (numberAt numbers 9);
-      start = numberAt numbers 10;
-      vle = flagOf (numberAt numbers 11);
-      length = numberAt numbers 12;
-      place = numberAt numbers 13;
-      out = flagOf (numberAt numbers 14);
+      going = flagOf (numberAt (given .numbers) 0);
+      configuration = headWith (firstEight (given .bytes));
+      port = portFor (numberAt (given .numbers) 1);
+      start = numberAt (given .numbers) 2;
+      vle = flagOf (numberAt (given .numbers) 3);
+      length = numberAt (given .numbers) 4;
+      place = numberAt (given .numbers) 5;
+      out = flagOf (numberAt (given .numbers) 6);
     }
 
--- what `c_sender::sender_numbers` promises of the numbers r of a sender: they are its numbers, and every call reads them as the sender, if its
--- configuration is what beginning makes of its password
-pub record SenderEncoding (sender : Sender) (r : List ℕ) : Type 0 where
-  pub equation : r ≡ senderNumbers sender
+-- what `c_load::put_sender` promises of the bytes and numbers r that it leaves: they are the sender's, and every call reads them as the sender,
+-- if its configuration is what beginning makes of its password
+pub record SenderEncoding (sender : Sender) (r : Form) : Type 0 where
+  pub equation : r ≡ senderForm sender
   pub reads-back : sender .configuration ≡ headWith (sender .configuration .password) → senderRead r ≡ sender
 
--- the numbers of an item: its port, its identifier, which only CAN has, and its bytes
+-- an item is 8 bytes and 3 numbers
+abbrev pub itemPlaces : Form → Bool
+itemPlaces given = eqb (length (given .bytes)) 8 && eqb (length (given .numbers)) 3
+
+-- its numbers: its port, its identifier, which only CAN has, and how many of the bytes are its own
 abbrev pub identifierOf : Source → ℕ
 identifierOf (Source.Can identifier) = identifier
 identifierOf (Source.Serial mark) = 0
 
-abbrev pub itemWidth : ℕ
-itemWidth = 11
-
 abbrev pub itemNumbers : Sent → List ℕ
-itemNumbers sent =
-    (portNumber (portFrom (sent .source)) ∷ identifierOf (sent .source) ∷ sent .length ∷ []) ++ firstEight (sent .bytes)
+itemNumbers sent = portNumber (portFrom (sent .source)) ∷ identifierOf (sent .source) ∷ sent .length ∷ []
+
+abbrev pub itemForm : Sent → Form
+itemForm sent = asForm (sent .bytes) (itemNumbers sent)
 
 -- the number of what becomes of a load
 abbrev pub verdictNumber : Verdict → ℕ

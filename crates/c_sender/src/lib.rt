@@ -1,37 +1,29 @@
-// Senders, items and verdicts as numbers, written and read, as they cross the C interface (include/boot_assist.h).
+// Senders, items and verdicts as bytes and numbers, as they cross the C interface (include/boot_assist.h).
 ghost use mathlib.Core.Path.{_≡_};
-ghost use Rattle.buffers.specs.Write.{filled};
-ghost use Rattle.c_session.specs.Reading.{eightIn};
-ghost use Rattle.c_sender.specs.Numbers.{SenderEncoding, senderNumbers, flagOf, portFor, senderRead, identifierOf, itemNumbers, verdictNumber};
+ghost use Rattle.c_answer.specs.Writing.{asForm};
+ghost use Rattle.c_sender.specs.Numbers.{senderNumbers, flagOf, portFor, senderRead, identifierOf, itemNumbers, verdictNumber};
 use sender::Verdict;
 use sender_load::Sender;
 use sender_load::Sent;
 use session_items::Source;
 use session_state::Port;
 
-// How many numbers a sender has, and an item.
-pub const SENDER_WIDTH: usize = 15;
+// How many bytes and numbers a sender has, and an item.
+pub const SENDER_BYTES: usize = 8;
 
-pub const ITEM_WIDTH: usize = 11;
+pub const SENDER_WIDTH: usize = 7;
+
+pub const ITEM_BYTES: usize = 8;
+
+pub const ITEM_WIDTH: usize = 3;
 
 // The numbers of a sender.
 pub fn sender_numbers(sender: Sender) -> [u32; SENDER_WIDTH]
-    ensures { λ r. ⌜ SenderEncoding sender r ⌝ }
+    ensures { λ r. ⌜ r ≡ senderNumbers sender ⌝ }
 {
     let port = sender.port;
-    let configuration = sender.configuration;
-    let bytes = configuration.password;
-    let password = c_answer::eight_numbers(bytes);
     [
         c_answer::flag(sender.going),
-        password[0],
-        password[1],
-        password[2],
-        password[3],
-        password[4],
-        password[5],
-        password[6],
-        password[7],
         c_session::port_number(port),
         sender.start,
         c_answer::flag(sender.vle),
@@ -39,14 +31,6 @@ pub fn sender_numbers(sender: Sender) -> [u32; SENDER_WIDTH]
         sender.place,
         c_answer::flag(sender.out),
     ]
-}
-
-// Writes the numbers of a sender over the first places of a list, or nothing where there is no room for them.
-pub fn put_sender(out: &mut [u32], sender: Sender)
-    ensures { λ _. ⌜ now (out .exit) ≡ filled (senderNumbers sender) (now (out .entry)) ⌝ }
-{
-    let written = sender_numbers(sender);
-    buffers::fill_words(out, &written[..]);
 }
 
 // The flag and the port of a number.
@@ -65,35 +49,19 @@ pub fn port_of(number: u32) -> Port
     Port::Serial
 }
 
-// The password in a sender's numbers.
-fn read_password(numbers: &[u32]) -> [u8; 8]
-    ensures { λ r. ⌜ r ≡ eightIn (now (numbers .entry)) 1 ⌝ }
-{
-    [
-        c_session::byte_in(numbers, 1),
-        c_session::byte_in(numbers, 2),
-        c_session::byte_in(numbers, 3),
-        c_session::byte_in(numbers, 4),
-        c_session::byte_in(numbers, 5),
-        c_session::byte_in(numbers, 6),
-        c_session::byte_in(numbers, 7),
-        c_session::byte_in(numbers, 8),
-    ]
-}
-
-// The sender of a list of numbers.
-pub fn read_sender(numbers: &[u32]) -> Sender
-    ensures { λ r. ⌜ r ≡ senderRead (now (numbers .entry)) ⌝ }
+// The sender of bytes and numbers.
+pub fn read_sender(bytes: &[u8], numbers: &[u32]) -> Sender
+    ensures { λ r. ⌜ r ≡ senderRead (asForm (now (bytes .entry)) (now (numbers .entry))) ⌝ }
 {
     Sender {
         going: flag_of(c_session::number_at(numbers, 0)),
-        configuration: sender::head_with(read_password(numbers)),
-        port: port_of(c_session::number_at(numbers, 9)),
-        start: c_session::number_at(numbers, 10),
-        vle: flag_of(c_session::number_at(numbers, 11)),
-        length: c_session::number_at(numbers, 12),
-        place: c_session::number_at(numbers, 13),
-        out: flag_of(c_session::number_at(numbers, 14)),
+        configuration: sender::head_with(octets::first_eight(bytes)),
+        port: port_of(c_session::number_at(numbers, 1)),
+        start: c_session::number_at(numbers, 2),
+        vle: flag_of(c_session::number_at(numbers, 3)),
+        length: c_session::number_at(numbers, 4),
+        place: c_session::number_at(numbers, 5),
+        out: flag_of(c_session::number_at(numbers, 6)),
     }
 }
 
@@ -112,20 +80,10 @@ pub fn item_numbers(sent: Sent) -> [u32; ITEM_WIDTH]
     ensures { λ r. ⌜ r ≡ itemNumbers sent ⌝ }
 {
     let source = sent.source;
-    let given = sent.bytes;
-    let bytes = c_answer::eight_numbers(given);
     [
         c_session::port_number(session_items::port_of(source)),
         identifier_of(source),
         c_answer::wide(sent.length),
-        bytes[0],
-        bytes[1],
-        bytes[2],
-        bytes[3],
-        bytes[4],
-        bytes[5],
-        bytes[6],
-        bytes[7],
     ]
 }
 

@@ -1,17 +1,25 @@
--- `c_load::begin` meets its contract: a sender that has not 15 numbers, a load, and what is no load.
-use denote.Ref.{now}
-use Rattle.buffers.proofs.Lending.{fill-whole}
-use Rattle.sender.specs.Calls.{idle}
-use Rattle.c_sender.specs.Numbers.{senderNumbers}
-use borrow.Author.Tests.{eq-eqb, ne-eqb}
-use Rattle.c_load.specs.Calls.{replyToBegin}
+-- `c_load::begin` meets its contract: a sender of another length, a load, and what is no load.
+use mathlib.Core.Path.{sym, _∙_}
+use borrow.Author.Tests.{not-true, not-false}
 use borrow.Author.Needs.{needs}
+use Rattle.c_load.specs.Calls.{replyToBegin}
 use Rattle.c_load.proofs.begin.Statement.{statement}
 use Rattle.c_load.proofs.begin.Tie as tie
 
+is-sender-sized-requires : tie.Need-is-sender-sized-requires
+is-sender-sized-requires c κs = search needs
+
+same-length : tie.Need-same-length
+same-length c = search needs
+
+same-length-2 : tie.Need-same-length-2
+same-length-2 c = search needs
+
 returns : tie.Need-returns
 unfolding replyToBegin
-returns c = rw (ne-eqb _ _ (c .if1 .taken))
+returns c =
+    let sized = c .before .is-sender-sized in
+    rw (← sized .ensures, not-true (sized .result) (c .if1 .taken))
 
 port-of-requires : tie.Need-port-of-requires
 port-of-requires c κs = search needs
@@ -26,53 +34,73 @@ begin-requires : tie.Need-begin-requires
 begin-requires c κs = search needs
 
 put-sender-requires : tie.Need-put-sender-requires
-put-sender-requires c κs = search needs
+put-sender-requires c κs =
+    let test = c .before .before .before .before .before .before .before .before in
+    let sized = test .before .is-sender-sized in
+    sym (sized .ensures) ∙ not-false (sized .result) (test .if1 .left)
 
 begun-number-requires : tie.Need-begun-number-requires
 begun-number-requires c κs = search needs
 
-same-length : tie.Need-same-length
-same-length c = search needs
+same-length-3 : tie.Need-same-length-3
+same-length-3 c = search needs
+
+same-length-4 : tie.Need-same-length-4
+same-length-4 c = search needs
 
 returns-2 : tie.Need-returns-2
 unfolding replyToBegin
 returns-2 c =
+    let begun = c .before .before .before .before .before .before .before .before .before in
+    let test = begun .before .before .before .before .before in
+    let sized = test .before .is-sender-sized in
     rw (
       c .begun-number .ensures,
-      c .before .before .before .put-sender .ensures,
-      fill-whole (senderNumbers (c .before .before .before .before .before .before .begin .result .sender)) (now (c .before .before .before .before .before .before .before .before .before .before .before .before .before .before .before .args .sender)) (c .before .before .before .before .before .before .before .before .before .before .before .if1 .left),
-      eq-eqb _ _ (c .before .before .before .before .before .before .before .before .before .before .before .if1 .left),
-      c .before .before .before .before .before .before .before .before .before .before .if2 .taken,
-      ← c .before .before .before .before .before .before .before .before .before .port-of .ensures,
-      ← c .before .before .before .before .before .before .before .before .flag-of .ensures,
-      ← c .before .before .before .before .before .before .before .first-eight .ensures,
-      ← c .before .before .before .before .before .before .begin .ensures,
+      c .before .before .before .before .before .put-sender .ensures .equation,
+      ← sized .ensures,
+      not-false (sized .result) (test .if1 .left),
+      begun .before .before .before .before .if2 .taken,
+      ← begun .before .before .before .port-of .ensures,
+      ← begun .before .before .flag-of .ensures,
+      ← begun .before .first-eight .ensures,
+      ← begun .begin .ensures,
     )
 
 no-load-requires : tie.Need-no-load-requires
 no-load-requires c κs = search needs
 
 put-sender-requires-2 : tie.Need-put-sender-requires-2
-put-sender-requires-2 c κs = search needs
+put-sender-requires-2 c κs =
+    let test = c .before .before .before .before in
+    let sized = test .before .is-sender-sized in
+    sym (sized .ensures) ∙ not-false (sized .result) (test .if1 .left)
 
-same-length-2 : tie.Need-same-length-2
-same-length-2 c = search needs
+same-length-5 : tie.Need-same-length-5
+same-length-5 c = search needs
+
+same-length-6 : tie.Need-same-length-6
+same-length-6 c = search needs
 
 returns-3 : tie.Need-returns-3
 unfolding replyToBegin
 returns-3 c =
+    let test = c .before .before .before .before .before .before .before .before .before in
+    let sized = test .before .is-sender-sized in
     rw (
-      c .before .before .put-sender2 .ensures,
-      c .before .before .before .no-load .ensures,
-      fill-whole (senderNumbers idle) (now (c .before .before .before .before .before .before .before .before .before .before .args .sender)) (c .before .before .before .before .before .before .if1 .left),
-      eq-eqb _ _ (c .before .before .before .before .before .before .if1 .left),
-      c .before .before .before .before .before .if2 .left,
+      c .before .before .before .before .put-sender2 .ensures .equation,
+      c .before .before .before .before .before .no-load .ensures,
+      ← sized .ensures,
+      not-false (sized .result) (test .if1 .left),
+      c .before .before .before .before .before .before .before .before .if2 .left,
     )
 
 pub begin-spec : {M : Type 1} → statement M
 begin-spec =
     tie.close
     (tie.spec
+    is-sender-sized-requires
+    same-length
+    same-length-2
     returns
     port-of-requires
     flag-of-requires
@@ -80,9 +108,11 @@ begin-spec =
     begin-requires
     put-sender-requires
     begun-number-requires
-    same-length
+    same-length-3
+    same-length-4
     returns-2
     no-load-requires
     put-sender-requires-2
-    same-length-2
+    same-length-5
+    same-length-6
     returns-3)

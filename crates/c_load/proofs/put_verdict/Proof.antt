@@ -1,7 +1,4 @@
 -- `c_load::put_verdict` meets its contract: a port, and a number that is none.
-use denote.Ref.{now}
-use Rattle.buffers.proofs.Lending.{fill-whole}
-use Rattle.c_sender.specs.Numbers.{senderNumbers}
 use borrow.Author.Tests.{le-leb, lt-leb}
 use borrow.Author.Needs.{needs}
 use Rattle.c_load.proofs.put_verdict.Statement.{statement}
@@ -16,13 +13,15 @@ verdict-number-requires c κs = search needs
 same-length : tie.Need-same-length
 same-length c = search needs
 
+same-length-2 : tie.Need-same-length-2
+same-length-2 c = search needs
+
 returns : tie.Need-returns
 returns c =
     rw (
       c .verdict-number .ensures,
-      c .before .before .before .put-sender .ensures,
-      fill-whole (senderNumbers (c .before .before .before .before .before .before .before .args .next)) (now (c .before .before .before .before .before .before .before .args .sender)) (c .before .before .before .before .before .before .before .pre),
-      le-leb _ _ (c .before .before .before .before .before .if1 .taken),
+      c .before .before .before .before .before .put-sender .ensures .equation,
+      le-leb _ _ (c .before .before .before .before .before .before .before .before .if1 .taken),
     )
 
 returns-2 : tie.Need-returns-2
@@ -30,4 +29,11 @@ returns-2 c = rw (lt-leb _ _ (c .if1 .left))
 
 pub put-verdict-spec : {M : Type 1} → statement M
 put-verdict-spec =
-    tie.close (tie.spec put-sender-requires verdict-number-requires same-length returns returns-2)
+    tie.close
+    (tie.spec
+    put-sender-requires
+    verdict-number-requires
+    same-length
+    same-length-2
+    returns
+    returns-2)

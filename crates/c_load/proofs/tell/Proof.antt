@@ -1,13 +1,25 @@
--- `c_load::tell` meets its contract: a sender that has not 15 numbers, and each thing that is told.
-use borrow.Author.Tests.{eq-eqb, ne-eqb}
-use Rattle.c_load.specs.Calls.{replyToTell}
+-- `c_load::tell` meets its contract: a sender of another length, and each thing that is told.
+use mathlib.Core.Path.{sym, _∙_}
+use borrow.Author.Tests.{not-true, not-false}
 use borrow.Author.Needs.{needs}
+use Rattle.c_load.specs.Calls.{replyToTell}
 use Rattle.c_load.proofs.tell.Statement.{statement}
 use Rattle.c_load.proofs.tell.Tie as tie
 
+is-sender-sized-requires : tie.Need-is-sender-sized-requires
+is-sender-sized-requires c κs = search needs
+
+same-length : tie.Need-same-length
+same-length c = search needs
+
+same-length-2 : tie.Need-same-length-2
+same-length-2 c = search needs
+
 returns : tie.Need-returns
 unfolding replyToTell
-returns c = rw (ne-eqb _ _ (c .if1 .taken))
+returns c =
+    let sized = c .before .is-sender-sized in
+    rw (← sized .ensures, not-true (sized .result) (c .if1 .taken))
 
 port-of-requires : tie.Need-port-of-requires
 port-of-requires c κs = search needs
@@ -22,7 +34,10 @@ enum-known-told : tie.Need-enum-known-told
 enum-known-told c = search needs
 
 put-verdict-requires : tie.Need-put-verdict-requires
-put-verdict-requires c κs = search needs
+put-verdict-requires c κs =
+    let test = c .before .before .before .before .before .before .before .before .before .before .before .before in
+    let sized = test .before .is-sender-sized in
+    sym (sized .ensures) ∙ not-false (sized .result) (test .if1 .left)
 
 enum-told : tie.Need-enum-told
 enum-told c = search needs
@@ -36,48 +51,69 @@ enum-told-2 c = search needs
 told-number-requires-2 : tie.Need-told-number-requires-2
 told-number-requires-2 c κs = search needs
 
-same-length : tie.Need-same-length
-same-length c = search needs
+same-length-3 : tie.Need-same-length-3
+same-length-3 c = search needs
+
+same-length-4 : tie.Need-same-length-4
+same-length-4 c = search needs
 
 returns-2 : tie.Need-returns-2
 unfolding replyToTell
 returns-2 c =
+    let told = c .before .before .before .before .before .before .before .before .before .before .before .before in
+    let test = told .before .before .before .before .before in
+    let sized = test .before .is-sender-sized in
     rw (
-      c .before .before .put-verdict .ensures,
-      eq-eqb _ _ (c .before .before .before .before .before .before .before .before .before .before .before .before .before .if1 .left),
-      ← c .before .before .before .before .before .before .before .before .before .before .read-sender .ensures,
-      ← c .before .before .before .before .before .before .before .before .before .before .before .before .port-of .ensures,
-      ← c .before .before .before .before .before .before .before .before .before .tell .ensures,
-      c .before .before .before .before .before .before .told .given .1,
+      c .before .before .before .before .put-verdict .ensures,
+      ← sized .ensures,
+      not-false (sized .result) (test .if1 .left),
+      ← told .before .read-sender .ensures,
+      ← told .before .before .before .before .port-of .ensures,
+      ← told .tell .ensures,
+      c .before .before .before .before .before .before .before .before .before .told .given .1,
     )
 
-same-length-2 : tie.Need-same-length-2
-same-length-2 c = search needs
+same-length-5 : tie.Need-same-length-5
+same-length-5 c = search needs
+
+same-length-6 : tie.Need-same-length-6
+same-length-6 c = search needs
 
 returns-3 : tie.Need-returns-3
 unfolding replyToTell
 returns-3 c =
+    let told = c .before .before .before .before in
+    let test = told .before .before .before .before .before in
+    let sized = test .before .is-sender-sized in
     rw (
       c .told-number .ensures,
-      eq-eqb _ _ (c .before .before .before .before .before .before .before .before .if1 .left),
-      ← c .before .before .before .before .before .read-sender .ensures,
-      ← c .before .before .before .before .before .before .before .port-of .ensures,
-      ← c .before .before .before .before .tell .ensures,
+      ← sized .ensures,
+      not-false (sized .result) (test .if1 .left),
+      ← told .before .read-sender .ensures,
+      ← told .before .before .before .before .port-of .ensures,
+      ← told .tell .ensures,
       c .before .enum-told .given .1,
     )
 
-same-length-3 : tie.Need-same-length-3
-same-length-3 c = search needs
+same-length-7 : tie.Need-same-length-7
+same-length-7 c = search needs
+
+same-length-8 : tie.Need-same-length-8
+same-length-8 c = search needs
 
 returns-4 : tie.Need-returns-4
 unfolding replyToTell
 returns-4 c =
+    let told = c .before .before .before .before in
+    let test = told .before .before .before .before .before in
+    let sized = test .before .is-sender-sized in
     rw (
       c .told-number2 .ensures,
-      eq-eqb _ _ (c .before .before .before .before .before .before .before .before .if1 .left),
-      ← c .before .before .before .before .before .read-sender .ensures,
-      ← c .before .before .before .before .before .before .before .port-of .ensures,
-      ← c .before .before .before .before .tell .ensures,
+      ← sized .ensures,
+      not-false (sized .result) (test .if1 .left),
+      ← told .before .read-sender .ensures,
+      ← told .before .before .before .before .port-of .ensures,
+      ← told .tell .ensures,
       c .before .enum-told2 .given .1,
     )
 
@@ -85,6 +121,9 @@ pub tell-spec : {M : Type 1} → statement M
 tell-spec =
     tie.close
     (tie.spec
+    is-sender-sized-requires
+    same-length
+    same-length-2
     returns
     port-of-requires
     read-sender-requires
@@ -95,9 +134,12 @@ tell-spec =
     told-number-requires
     enum-told-2
     told-number-requires-2
-    same-length
-    returns-2
-    same-length-2
-    returns-3
     same-length-3
+    same-length-4
+    returns-2
+    same-length-5
+    same-length-6
+    returns-3
+    same-length-7
+    same-length-8
     returns-4)

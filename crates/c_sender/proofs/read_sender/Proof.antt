@@ -9,8 +9,8 @@ number-at-requires c κs = search needs
 flag-of-requires : tie.Need-flag-of-requires
 flag-of-requires c κs = search needs
 
-read-password-requires : tie.Need-read-password-requires
-read-password-requires c κs = search needs
+first-eight-requires : tie.Need-first-eight-requires
+first-eight-requires c κs = search needs
 
 head-with-requires : tie.Need-head-with-requires
 head-with-requires c κs = search needs
@@ -55,7 +55,7 @@ returns c =
       c .before .before .before .before .before .before .before .port-of .ensures,
       c .before .before .before .before .before .before .before .before .number-at2 .ensures,
       c .before .before .before .before .before .before .before .before .before .head-with .ensures,
-      c .before .before .before .before .before .before .before .before .before .before .read-password .ensures,
+      c .before .before .before .before .before .before .before .before .before .before .first-eight .ensures,
       c .before .before .before .before .before .before .before .before .before .before .before .flag-of .ensures,
       c .before .before .before .before .before .before .before .before .before .before .before .before .number-at .ensures,
     )
@@ -66,7 +66,7 @@ read-sender-spec =
     (tie.spec
     number-at-requires
     flag-of-requires
-    read-password-requires
+    first-eight-requires
     head-with-requires
     number-at-requires-2
     port-of-requires
