@@ -10,10 +10,10 @@ use Rattle.replay.proofs.play_all.Statement.{statement}
 use Rattle.replay.proofs.play_all.Tie as tie
 
 abbrev Inv-loop : tie.InvT-loop
-Inv-loop window₀ sram₀ out₀ run₀ turns₀ window sram out run turns = (length window ≡ length window₀) × (length sram ≡ length sram₀) × (length out ≡ length out₀)
+Inv-loop fd name window₀ sram₀ out₀ run₀ turns₀ window sram out run turns = (length window ≡ length window₀) × (length sram ≡ length sram₀) × (length out ≡ length out₀)
 
 abbrev μ-loop : tie.MeasureT-loop
-μ-loop window₀ sram₀ out₀ run₀ turns₀ window sram out run turns = turns
+μ-loop fd name window₀ sram₀ out₀ run₀ turns₀ window sram out run turns = turns
 
 begin-requires : tie.Need-begin-requires Inv-loop μ-loop
 begin-requires c κs = tt
@@ -41,7 +41,7 @@ loop-again : tie.Need-loop-again Inv-loop μ-loop
 loop-again c =
     let call = c .before .before .before .before .before .before .play-on in
     let l = c .before .before .before .before .before .before .before .before .before .before .before .before .loop in
-    (call .kept .0 ∙ l .inv .0, call .kept .1 .0 ∙ l .inv .1, call .kept .1 .1 .0 ∙ l .inv .2)
+    (call .kept .1 .1 .0 ∙ l .inv .0, call .kept .1 .1 .1 .0 ∙ l .inv .1, call .kept .1 .1 .1 .1 .0 ∙ l .inv .2)
 
 same-length : tie.Need-same-length Inv-loop μ-loop
 same-length c = c .before .before .loop .inv .0
