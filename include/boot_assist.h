@@ -272,8 +272,8 @@ static inline uint8_t boot_assist_session_rows(const struct boot_assist_session 
 /*
  * One CAN frame, and one serial byte.
  *
- * Frames are standard ones, with identifiers of 11 bits. An extended frame (29 bits) must not be handed in as one, also
- * where its identifier is small; and a remote frame, which has no data, must not be handed in at all.
+ * Frames are standard ones, with identifiers of 11 bits. An extended frame (29 bits) must not be handed in as one,
+ * whatever its identifier is; and a remote frame, which has no data, must not be handed in at all.
  *
  * session       as the last call left it; written
  * sram          BOOT_ASSIST_SRAM_SIZE bytes; data bytes are stored in it
@@ -417,9 +417,9 @@ enum boot_assist_length {
 };
 
 /*
- * An answer has BOOT_ASSIST_ANSWER_NUMBERS in the order of boot_assist_answer_number. A password (sender_bytes is one)
- * has 8 bytes, the shadow row 12, the external head 8, an echo and item_bytes 8; echoes and answers have as many for
- * each item of a list. Of faulty and vle 0 means no, any other number yes.
+ * An answer has BOOT_ASSIST_ANSWER_NUMBERS in the order of boot_assist_answer_number. A password (sender_bytes is one),
+ * the external head, an echo and item_bytes have 8 bytes, the shadow row 12; echoes and answers have as many for each
+ * item of a list. Of faulty and vle 0 means no, any other number yes.
  *
  * What is handed in or written with another length gets this number:
  *
