@@ -6,92 +6,72 @@
  * FLASH is the internal flash from address 0, SHADOW the 12 bytes of the shadow row, EXTERNAL the first 8 bytes
  * of external memory. Exit status: 0 answered, 1 refused (the number is printed), 2 an argument or a file is bad.
  */
-#include <stdio.h>
-#include <stdlib.h>
+#define PROGRAM "choice"
+#define USAGE "BOOTCFG FLASH SHADOW EXTERNAL"
+#include "arguments.h"
 
-#include "boot_assist.h"
-
-/* One byte more than the longest flash that is allowed: what is longer still gets the same answer. */
-#define LONGEST (2097152 + 1)
+static const char *const names[] = {"BOOTCFG", "FLASH", "SHADOW", "EXTERNAL"};
 
 static const char *const modes[] = {
-    "internal", "external", "serial, entered directly", "serial, entered from internal", "serial, entered from external",
+    [BOOT_ASSIST_MODE_INTERNAL] = "internal",
+    [BOOT_ASSIST_MODE_EXTERNAL] = "external",
+    [BOOT_ASSIST_MODE_SERIAL_DIRECTLY] = "serial, entered directly",
+    [BOOT_ASSIST_MODE_SERIAL_FROM_INTERNAL] = "serial, entered from internal",
+    [BOOT_ASSIST_MODE_SERIAL_FROM_EXTERNAL] = "serial, entered from external",
 };
 
-static size_t read_file(const char *name, uint8_t *bytes)
+static void show_choice(const struct boot_assist_choice *choice)
 {
-    FILE *file = fopen(name, "rb");
-    if (file == NULL) {
-        perror(name);
-        exit(2);
-    }
-    size_t len = fread(bytes, 1, LONGEST, file);
-    if (ferror(file)) {
-        perror(name);
-        exit(2);
-    }
-    fclose(file);
-    return len;
-}
-
-static void show_choice(const uint32_t fields[BOOT_ASSIST_FIELDS_LENGTH], const uint8_t password[8])
-{
-    printf("boot      %s\n", modes[fields[BOOT_ASSIST_FIELD_MODE]]);
-    printf("place     %08X\n", (unsigned)fields[BOOT_ASSIST_FIELD_PLACE]);
-    printf("looked at %u\n", (unsigned)fields[BOOT_ASSIST_FIELD_LOOKED]);
-    printf("jump      %08X\n", (unsigned)fields[BOOT_ASSIST_FIELD_JUMP]);
-    printf("watchdog  %s\n", fields[BOOT_ASSIST_FIELD_WATCHDOG] ? "on" : "off");
-    printf("16-bit    %s\n", fields[BOOT_ASSIST_FIELD_BUS16] ? "on" : "off");
-    printf("flash     %s\n", fields[BOOT_ASSIST_FIELD_FLASH] ? "on" : "off");
-    printf("Nexus     %s\n", fields[BOOT_ASSIST_FIELD_NEXUS] ? "on" : "off");
+    printf("boot      %s\n", modes[choice->mode]);
+    printf("place     %08X\n", (unsigned)choice->place);
+    printf("looked at %u\n", (unsigned)choice->looked);
+    printf("jump      %08X\n", (unsigned)choice->jump);
+    printf("watchdog  %s\n", choice->watchdog ? "on" : "off");
+    printf("16-bit    %s\n", choice->bus16 ? "on" : "off");
+    printf("flash     %s\n", choice->flash ? "on" : "off");
+    printf("Nexus     %s\n", choice->nexus ? "on" : "off");
     printf("password ");
-    for (int i = 0; i < 8; i++)
-        printf(" %02X", password[i]);
+    for (int i = 0; i < BOOT_ASSIST_PASSWORD_SIZE; i++)
+        printf(" %02X", choice->password[i]);
     printf("\n");
 }
 
-static void show_rows(uint8_t mode)
+static void show_rows(uint32_t mode)
 {
-    uint32_t rows[BOOT_ASSIST_TABLE_LENGTH];
-    uint8_t number = boot_assist_choice_rows(mode, rows, BOOT_ASSIST_TABLE_LENGTH);
-    if (number != 0) {
+    struct boot_assist_row rows[BOOT_ASSIST_ROWS];
+    uint8_t number = boot_assist_choice_rows(mode, rows);
+    if (number != BOOT_ASSIST_ANSWERED) {
         printf("MMU rows  number %u\n", number);
         return;
     }
-    for (int entry = 0; entry < BOOT_ASSIST_TABLE_LENGTH / BOOT_ASSIST_ROW_LENGTH; entry++) {
-        const uint32_t *row = rows + entry * BOOT_ASSIST_ROW_LENGTH;
+    for (int entry = 0; entry < BOOT_ASSIST_ROWS; entry++) {
+        const struct boot_assist_row *row = &rows[entry];
         printf("MMU row %d %08X %08X %8u bytes, %s, %s, %s, %s, %s\n", entry,
-               (unsigned)row[BOOT_ASSIST_ROW_LOGICAL], (unsigned)row[BOOT_ASSIST_ROW_PHYSICAL], (unsigned)row[BOOT_ASSIST_ROW_SIZE],
-               row[BOOT_ASSIST_ROW_CACHE_INHIBITED] ? "cache inhibited" : "cache enabled",
-               row[BOOT_ASSIST_ROW_GUARDED] ? "guarded" : "not guarded",
-               row[BOOT_ASSIST_ROW_BIG_ENDIAN] ? "big endian" : "little endian",
-               row[BOOT_ASSIST_ROW_GLOBAL_PID] ? "global PID" : "own PID",
-               row[BOOT_ASSIST_ROW_VLE] ? "VLE" : "no VLE");
+               (unsigned)row->logical, (unsigned)row->physical, (unsigned)row->size,
+               row->cache_inhibited ? "cache inhibited" : "cache enabled",
+               row->guarded ? "guarded" : "not guarded",
+               row->big_endian ? "big endian" : "little endian",
+               row->global_pid ? "global PID" : "own PID",
+               row->vle ? "VLE" : "no VLE");
     }
 }
 
 int main(int argc, char **argv)
 {
-    static uint8_t flash[LONGEST], shadow[LONGEST], external[LONGEST];
-    char *end = NULL;
-    unsigned long bootcfg = argc == 5 ? strtoul(argv[1], &end, 10) : 0;
-    if (argc != 5 || end == argv[1] || *end != '\0' || bootcfg > UINT8_MAX) {
-        fprintf(stderr, "usage: choice BOOTCFG FLASH SHADOW EXTERNAL\n");
-        return 2;
-    }
-    size_t flash_len = read_file(argv[2], flash);
-    size_t shadow_len = read_file(argv[3], shadow);
-    size_t external_len = read_file(argv[4], external);
+    static uint8_t flash[BOOT_ASSIST_FLASH_MOST], shadow[BOOT_ASSIST_SHADOW_SIZE], external[BOOT_ASSIST_EXTERNAL_SIZE];
+    struct boot_assist_choice choice;
+    argument_count(argc, argv, names, 4);
+    uint8_t bootcfg = (uint8_t)argument_number("BOOTCFG", argv[1], 10, UINT8_MAX);
+    size_t flash_len = argument_file("FLASH", argv[2], flash, sizeof flash);
+    argument_bytes("SHADOW", argv[3], shadow, sizeof shadow);
+    argument_bytes("EXTERNAL", argv[4], external, sizeof external);
 
-    uint32_t fields[BOOT_ASSIST_FIELDS_LENGTH];
-    uint8_t password[8];
-    uint8_t number = boot_assist_choice((uint8_t)bootcfg, flash, flash_len, shadow, shadow_len, external, external_len,
-                                        fields, BOOT_ASSIST_FIELDS_LENGTH, password, sizeof password);
-    if (number != 0) {
+    uint8_t number = boot_assist_choose(bootcfg, flash, flash_len, shadow, external, &choice);
+    if (number != BOOT_ASSIST_ANSWERED) {
         printf("number %u\n", number);
         return 1;
     }
-    show_choice(fields, password);
-    show_rows((uint8_t)fields[BOOT_ASSIST_FIELD_MODE]);
+    show_choice(&choice);
+    show_rows(choice.mode);
     return 0;
 }

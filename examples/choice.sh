@@ -3,8 +3,15 @@
 #     sh examples/choice.sh                                  a made-up flash with a half word at 0x1C000
 #     sh examples/choice.sh BOOTCFG FLASH SHADOW EXTERNAL    images of your own
 set -eu
-root=$(cd "$(dirname "$0")/.." && pwd)
-out=$root/target/examples
+root=$(CDPATH= cd "$(dirname "$0")/.." && pwd)
+. "$root/examples/common.sh"
+usage "$@"
+if [ $# -gt 0 ]; then
+    takes 'BOOTCFG FLASH SHADOW EXTERNAL' "$@"
+    readable FLASH "$2"
+    readable SHADOW "$3"
+    readable EXTERNAL "$4"
+fi
 sh "$root/examples/build.sh" choice
 
 if [ $# -eq 0 ]; then

@@ -1,25 +1,26 @@
 /*
- * What load.c, head.c, truck.c and wire.c share: reading arguments and an image, and reading and writing a line, which
- * is an open descriptor. A serial line carries raw bytes. A CAN line carries packets, one a frame: the identifier in 2
- * bytes, the higher first, then the data bytes.
+ * What head.c, truck.c and wire.c share: reading and writing a line, which is an open descriptor. A serial line carries
+ * raw bytes. A CAN line carries packets, one a frame: the identifier in 2 bytes, the higher first, then the data bytes.
  */
 #ifndef LINE_H
 #define LINE_H
 
-#include <errno.h>
+#include <fcntl.h>
+#include <limits.h>
 #include <poll.h>
-#include <stdint.h>
-#include <stdio.h>
-#include <stdlib.h>
-#include <string.h>
 #include <time.h>
 #include <unistd.h>
 
-#include "boot_assist.h"
+#include "arguments.h"
+
+/* How many bytes of a packet are the frame's identifier. */
+#define LINE_IDENTIFIER 2
 
 /* The longest packet that is read; a frame has at most 10 bytes. Of a longer packet the rest is dropped, and what is
  * read is still too long for a frame. */
 #define LINE_LONGEST 16
+
+#define LINE_WRITE_WAIT 5000 /* in milliseconds */
 
 /* Where nothing was read: the other side is gone, or nothing came in the time given. */
 enum { LINE_CLOSED = 0, LINE_SILENT = -1 };
@@ -31,37 +32,13 @@ struct line_item {
     uint8_t bytes[LINE_LONGEST];
 };
 
-/* A whole number, 0 to 0xFFFFFFFF; or -1 for any other text. */
-static inline int64_t line_number(const char *text, int base)
+/* An open descriptor by its number. */
+static inline int line_descriptor(const char *name, const char *text)
 {
-    char *end;
-    errno = 0;
-    unsigned long long value = strtoull(text, &end, base);
-    return errno != 0 || end == text || *end != '\0' || value > UINT32_MAX ? -1 : (int64_t)value;
-}
-
-/* A boot_assist_port by its name; or -1. */
-static inline int line_port(const char *name)
-{
-    if (strcmp(name, "can") == 0)
-        return BOOT_ASSIST_PORT_CAN;
-    return strcmp(name, "serial") == 0 ? BOOT_ASSIST_PORT_SERIAL : -1;
-}
-
-/* Reads a file, or as much of it as there is room for. Returns how many bytes were read; or -1, and says why. */
-static inline int64_t line_file(const char *name, uint8_t *bytes, size_t room)
-{
-    FILE *file = fopen(name, "rb");
-    if (file == NULL) {
-        perror(name);
-        return -1;
-    }
-    size_t len = fread(bytes, 1, room, file);
-    int bad = ferror(file);
-    if (bad)
-        perror(name);
-    fclose(file);
-    return bad ? -1 : (int64_t)len;
+    int fd = (int)argument_number(name, text, 10, INT_MAX);
+    if (fcntl(fd, F_GETFD) < 0)
+        argument_bad(name, text, strerror(errno));
+    return fd;
 }
 
 static inline int64_t line_clock(void)
@@ -105,7 +82,7 @@ static inline int line_read(int fd, uint8_t *bytes, size_t len, int milliseconds
 static inline int line_write(int fd, const uint8_t *bytes, size_t len)
 {
     while (len > 0) {
-        if (!line_wait(fd, POLLOUT, 5000)) {
+        if (!line_wait(fd, POLLOUT, LINE_WRITE_WAIT)) {
             fprintf(stderr, "line: nothing can be written\n");
             return 0;
         }
@@ -124,10 +101,10 @@ static inline int line_write(int fd, const uint8_t *bytes, size_t len)
 }
 
 /* Takes one frame or one serial byte from the line. Returns 1; or LINE_CLOSED or LINE_SILENT, and the item is empty. */
-static inline int line_get(int fd, int port, struct line_item *item, int milliseconds)
+static inline int line_get(int fd, uint32_t port, struct line_item *item, int milliseconds)
 {
     uint8_t bytes[LINE_LONGEST];
-    size_t identifier_len = port == BOOT_ASSIST_PORT_CAN ? 2 : 0;
+    size_t identifier_len = port == BOOT_ASSIST_PORT_CAN ? LINE_IDENTIFIER : 0;
     memset(item, 0, sizeof *item);
     int len = line_read(fd, bytes, port == BOOT_ASSIST_PORT_CAN ? sizeof bytes : 1, milliseconds);
     if (len <= 0)
@@ -143,18 +120,14 @@ static inline int line_get(int fd, int port, struct line_item *item, int millise
     return 1;
 }
 
-/* Sends one frame, or serial bytes. The bytes, at most 8, are numbers, as the library writes them. */
-static inline int line_put(int fd, int port, uint32_t identifier, const uint32_t *numbers, size_t count)
+/* Sends one frame, or serial bytes; at most BOOT_ASSIST_FRAME_MOST of them. */
+static inline int line_put(int fd, uint32_t port, uint32_t identifier, const uint8_t *bytes, size_t count)
 {
-    uint8_t bytes[2 + 8];
-    size_t len = 0;
-    if (port == BOOT_ASSIST_PORT_CAN) {
-        bytes[len++] = (uint8_t)(identifier >> 8);
-        bytes[len++] = (uint8_t)identifier;
-    }
-    for (size_t i = 0; i < count; i++)
-        bytes[len++] = (uint8_t)numbers[i];
-    return line_write(fd, bytes, len);
+    uint8_t packet[LINE_IDENTIFIER + BOOT_ASSIST_FRAME_MOST] = {(uint8_t)(identifier >> 8), (uint8_t)identifier};
+    if (port != BOOT_ASSIST_PORT_CAN)
+        return line_write(fd, bytes, count);
+    memcpy(packet + LINE_IDENTIFIER, bytes, count);
+    return line_write(fd, packet, LINE_IDENTIFIER + count);
 }
 
 #endif

@@ -9,60 +9,44 @@
  * status: 0 the head jumped, and its SRAM holds the image; 1 it did not, or the sender refused the image (its number is
  * printed); 2 an argument or a file is bad.
  */
-#define _POSIX_C_SOURCE 200809L
-#include "line.h"
+#define PROGRAM "load"
+#define USAGE "can|serial START IMAGE"
+#include "arguments.h"
 
-#define SRAM_LENGTH 65536
-#define SRAM_START 0x40000000u
-
-static const char *const verdicts[] = {"goes on", "done", "abandoned"};
-static const uint8_t password[8] = {0xFE, 0xED, 0xFA, 0xCE, 0xCA, 0xFE, 0xBE, 0xEF};
-/* One byte more than SRAM has: what is longer still is refused with the same number. */
-static uint8_t image[SRAM_LENGTH + 1];
-static uint8_t sram[SRAM_LENGTH];
-
-/* The bytes of an item or of an echo, which the library writes as one number each. */
-static void to_bytes(const uint32_t *numbers, uint8_t bytes[8])
-{
-    for (int i = 0; i < 8; i++)
-        bytes[i] = (uint8_t)numbers[i];
-}
+static const char *const names[] = {"PORT", "START", "IMAGE"};
+static const char *const verdicts[] = {
+    [BOOT_ASSIST_VERDICT_GOES_ON] = "goes on",
+    [BOOT_ASSIST_VERDICT_DONE] = "done",
+    [BOOT_ASSIST_VERDICT_ABANDONED] = "abandoned",
+};
+static const uint8_t password[] = BOOT_ASSIST_PUBLIC_PASSWORD;
+static uint8_t image[BOOT_ASSIST_SRAM_SIZE];
+static uint8_t sram[BOOT_ASSIST_SRAM_SIZE];
 
 /* Hands an item to the head, and returns the number of its answer. A call that is refused writes no answer. */
-static uint8_t hand_in(uint32_t *session, const uint32_t *item, uint32_t *answer)
+static uint8_t hand_in(struct boot_assist_session *session, const struct boot_assist_item *item,
+                       struct boot_assist_answer *answer)
 {
-    uint8_t bytes[8];
-    to_bytes(item + BOOT_ASSIST_ITEM_BYTES, bytes);
-    memset(answer, 0, BOOT_ASSIST_ANSWER_LENGTH * sizeof *answer);
-    if (item[BOOT_ASSIST_ITEM_PORT] == BOOT_ASSIST_PORT_CAN)
-        return boot_assist_frame(session, BOOT_ASSIST_SESSION_LENGTH, sram, SRAM_LENGTH,
-                                 item[BOOT_ASSIST_ITEM_IDENTIFIER], bytes, item[BOOT_ASSIST_ITEM_COUNT],
-                                 answer, BOOT_ASSIST_ANSWER_LENGTH);
-    return boot_assist_byte(session, BOOT_ASSIST_SESSION_LENGTH, sram, SRAM_LENGTH, bytes[0], 0,
-                            answer, BOOT_ASSIST_ANSWER_LENGTH);
-}
-
-/* Tells the sender the echo, and returns its verdict; where it does not take the echo, the load is abandoned. */
-static uint8_t tell(uint32_t *sender, size_t len, uint8_t port, const uint32_t *answer)
-{
-    uint8_t bytes[8], verdict = BOOT_ASSIST_VERDICT_ABANDONED;
-    to_bytes(answer + BOOT_ASSIST_ANSWER_ECHO, bytes);
-    boot_assist_tell(sender, BOOT_ASSIST_SENDER_LENGTH, image, len, port, answer[BOOT_ASSIST_ANSWER_ECHO_IDENTIFIER],
-                     bytes, answer[BOOT_ASSIST_ANSWER_ECHO_LENGTH], &verdict);
-    return verdict;
+    *answer = (struct boot_assist_answer){0};
+    if (item->port == BOOT_ASSIST_PORT_CAN)
+        return boot_assist_frame(session, sram, sizeof sram, item->identifier, item->bytes, item->count, answer);
+    return boot_assist_byte(session, sram, sizeof sram, item->bytes[0], false, answer);
 }
 
 /* Sends the load to a fresh head, and returns the number of the last answer. */
-static uint8_t send_load(uint32_t *sender, size_t len, uint32_t *session, uint32_t *answer)
+static uint8_t send_load(struct boot_assist_sender *sender, size_t len, struct boot_assist_session *session,
+                         struct boot_assist_answer *answer)
 {
-    uint32_t item[BOOT_ASSIST_ITEM_LENGTH];
-    uint8_t number = 0, verdict = BOOT_ASSIST_VERDICT_GOES_ON;
+    struct boot_assist_item item;
+    uint8_t number = BOOT_ASSIST_ANSWERED, verdict = BOOT_ASSIST_VERDICT_GOES_ON;
     size_t items = 0;
-    boot_assist_session(BOOT_ASSIST_MODE_SERIAL_DIRECTLY, password, 8, session, BOOT_ASSIST_SESSION_LENGTH);
+    boot_assist_fresh(BOOT_ASSIST_MODE_SERIAL_DIRECTLY, password, session);
     while (verdict == BOOT_ASSIST_VERDICT_GOES_ON &&
-           boot_assist_ask(sender, BOOT_ASSIST_SENDER_LENGTH, image, len, item, BOOT_ASSIST_ITEM_LENGTH) == 0) {
-        number = hand_in(session, item, answer);
-        verdict = tell(sender, len, (uint8_t)item[BOOT_ASSIST_ITEM_PORT], answer);
+           boot_assist_ask(sender, image, len, &item) == BOOT_ASSIST_ANSWERED) {
+        number = hand_in(session, &item, answer);
+        verdict = BOOT_ASSIST_VERDICT_ABANDONED; /* where the sender does not take the echo */
+        boot_assist_tell(sender, image, len, item.port, answer->echo_identifier, answer->echo, answer->echo_length,
+                         &verdict);
         items++;
     }
     printf("items     %zu\nnumber    %u\nverdict   %s\n", items, number, verdicts[verdict]);
@@ -70,43 +54,37 @@ static uint8_t send_load(uint32_t *sender, size_t len, uint32_t *session, uint32
 }
 
 /* The VLE of the session's MMU rows, entries 0 to 4. */
-static void show_vle(const uint32_t *session)
+static void show_vle(const struct boot_assist_session *session)
 {
-    uint32_t rows[BOOT_ASSIST_TABLE_LENGTH];
-    if (boot_assist_session_rows(session, BOOT_ASSIST_SESSION_LENGTH, rows, BOOT_ASSIST_TABLE_LENGTH) != 0)
+    struct boot_assist_row rows[BOOT_ASSIST_ROWS];
+    if (boot_assist_session_rows(session, rows) != BOOT_ASSIST_ANSWERED)
         return;
     printf("rows' VLE");
-    for (int at = BOOT_ASSIST_ROW_VLE; at < BOOT_ASSIST_TABLE_LENGTH; at += BOOT_ASSIST_ROW_LENGTH)
-        printf(" %u", (unsigned)rows[at]);
+    for (int entry = 0; entry < BOOT_ASSIST_ROWS; entry++)
+        printf(" %u", (unsigned)rows[entry].vle);
     printf("\n");
 }
 
 int main(int argc, char **argv)
 {
-    int port = argc == 4 ? line_port(argv[1]) : -1;
-    int64_t start = argc == 4 ? line_number(argv[2], 16) : -1;
-    if (port < 0 || start < 0) {
-        fprintf(stderr, "usage: load can|serial START IMAGE\n");
-        return 2;
-    }
-    int64_t count = line_file(argv[3], image, sizeof image);
-    if (count < 0)
-        return 2;
-    size_t len = (size_t)count;
+    struct boot_assist_sender sender;
+    struct boot_assist_session session;
+    struct boot_assist_answer answer;
+    argument_count(argc, argv, names, 3);
+    uint32_t port = argument_port("PORT", argv[1]);
+    uint32_t start = argument_number("START", argv[2], 16, UINT32_MAX);
+    size_t len = argument_file("IMAGE", argv[3], image, sizeof image);
 
-    uint32_t sender[BOOT_ASSIST_SENDER_LENGTH], session[BOOT_ASSIST_SESSION_LENGTH], answer[BOOT_ASSIST_ANSWER_LENGTH];
-    uint8_t number = boot_assist_begin((uint8_t)port, (uint32_t)start, 1, password, 8, image, len,
-                                       sender, BOOT_ASSIST_SENDER_LENGTH);
-    if (number != 0) {
+    uint8_t number = boot_assist_begin(port, start, true, password, image, len, &sender);
+    if (number != BOOT_ASSIST_ANSWERED) {
         printf("sender    refuses the image: number %u\n", number);
         return 1;
     }
-    if (send_load(sender, len, session, answer) != 5)
+    if (send_load(&sender, len, &session, &answer) != BOOT_ASSIST_JUMPS)
         return 1;
-    uint32_t jump = answer[BOOT_ASSIST_ANSWER_JUMP];
-    int held = memcmp(sram + (jump - SRAM_START), image, len) == 0;
-    printf("jump      %08X\nVLE       %u\nSRAM      %s\n", (unsigned)jump, (unsigned)answer[BOOT_ASSIST_ANSWER_VLE],
+    int held = memcmp(sram + (answer.jump - BOOT_ASSIST_SRAM_BASE), image, len) == 0;
+    printf("jump      %08X\nVLE       %u\nSRAM      %s\n", (unsigned)answer.jump, (unsigned)answer.vle,
            held ? "holds the image" : "does not hold the image");
-    show_vle(session);
+    show_vle(&session);
     return held ? 0 : 1;
 }

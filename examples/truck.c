@@ -9,38 +9,39 @@
  * bad.
  */
 #define _POSIX_C_SOURCE 200809L
+#define PROGRAM "truck"
+#define USAGE "can|serial FD START IMAGE"
 #include <signal.h>
 
+#include "arguments.h"
 #include "line.h"
 
 #define ECHO_WAIT 5000 /* in milliseconds */
 
-static const uint8_t password[8] = {0xFE, 0xED, 0xFA, 0xCE, 0xCA, 0xFE, 0xBE, 0xEF};
-/* One byte more than SRAM has: what is longer still is refused with the same number. */
-static uint8_t image[65536 + 1];
+static const char *const names[] = {"PORT", "FD", "START", "IMAGE"};
+static const uint8_t password[] = BOOT_ASSIST_PUBLIC_PASSWORD;
+static uint8_t image[BOOT_ASSIST_SRAM_SIZE];
 
 /* Sends an item and waits for its echo, which is empty if none comes. */
-static void exchange(int fd, int port, const uint32_t *item, struct line_item *echo)
+static void exchange(int fd, const struct boot_assist_item *item, struct line_item *echo)
 {
     memset(echo, 0, sizeof *echo);
-    if (!line_put(fd, port, item[BOOT_ASSIST_ITEM_IDENTIFIER], item + BOOT_ASSIST_ITEM_BYTES,
-                  item[BOOT_ASSIST_ITEM_COUNT]) ||
-        line_get(fd, port, echo, ECHO_WAIT) != 1)
+    if (!line_put(fd, item->port, item->identifier, item->bytes, item->count) ||
+        line_get(fd, item->port, echo, ECHO_WAIT) != 1)
         fprintf(stderr, "truck: nothing could be sent, or no echo came\n");
 }
 
 /* Sends the items until the verdict is done or abandoned. Where the sender takes no echo, the load is abandoned. */
-static uint8_t send_load(int fd, int port, uint32_t *sender, size_t len, size_t *items)
+static uint8_t send_load(int fd, struct boot_assist_sender *sender, size_t len, size_t *items)
 {
-    uint32_t item[BOOT_ASSIST_ITEM_LENGTH];
+    struct boot_assist_item item;
     struct line_item echo;
     uint8_t verdict = BOOT_ASSIST_VERDICT_GOES_ON;
     while (verdict == BOOT_ASSIST_VERDICT_GOES_ON &&
-           boot_assist_ask(sender, BOOT_ASSIST_SENDER_LENGTH, image, len, item, BOOT_ASSIST_ITEM_LENGTH) == 0) {
-        exchange(fd, port, item, &echo);
+           boot_assist_ask(sender, image, len, &item) == BOOT_ASSIST_ANSWERED) {
+        exchange(fd, &item, &echo);
         verdict = BOOT_ASSIST_VERDICT_ABANDONED;
-        boot_assist_tell(sender, BOOT_ASSIST_SENDER_LENGTH, image, len, (uint8_t)port, echo.identifier,
-                         echo.bytes, echo.count, &verdict);
+        boot_assist_tell(sender, image, len, item.port, echo.identifier, echo.bytes, echo.count, &verdict);
         ++*items;
     }
     return verdict;
@@ -48,26 +49,20 @@ static uint8_t send_load(int fd, int port, uint32_t *sender, size_t len, size_t 
 
 int main(int argc, char **argv)
 {
-    int port = argc == 5 ? line_port(argv[1]) : -1;
-    int64_t fd = argc == 5 ? line_number(argv[2], 10) : -1;
-    int64_t start = argc == 5 ? line_number(argv[3], 16) : -1;
-    if (port < 0 || fd < 0 || fd > INT32_MAX || start < 0) {
-        fprintf(stderr, "usage: truck can|serial FD START IMAGE\n");
-        return 2;
-    }
-    int64_t count = line_file(argv[4], image, sizeof image);
-    if (count < 0)
-        return 2;
-    size_t len = (size_t)count, items = 0;
+    struct boot_assist_sender sender;
+    size_t items = 0;
+    argument_count(argc, argv, names, 4);
+    uint32_t port = argument_port("PORT", argv[1]);
+    int fd = line_descriptor("FD", argv[2]);
+    uint32_t start = argument_number("START", argv[3], 16, UINT32_MAX);
+    size_t len = argument_file("IMAGE", argv[4], image, sizeof image);
     signal(SIGPIPE, SIG_IGN);
-    uint32_t sender[BOOT_ASSIST_SENDER_LENGTH];
-    uint8_t number = boot_assist_begin((uint8_t)port, (uint32_t)start, 1, password, 8, image, len,
-                                       sender, BOOT_ASSIST_SENDER_LENGTH);
-    if (number != 0) {
+    uint8_t number = boot_assist_begin(port, start, true, password, image, len, &sender);
+    if (number != BOOT_ASSIST_ANSWERED) {
         printf("truck sends nothing: the sender refuses the image with number %u\n", number);
         return 1;
     }
-    if (send_load((int)fd, port, sender, len, &items) != BOOT_ASSIST_VERDICT_DONE) {
+    if (send_load(fd, &sender, len, &items) != BOOT_ASSIST_VERDICT_DONE) {
         printf("truck abandoned at item %zu\n", items);
         return 1;
     }

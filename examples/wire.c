@@ -11,13 +11,17 @@
  * cannot be made.
  */
 #define _XOPEN_SOURCE 700
-#include <fcntl.h>
+#define PROGRAM "wire"
+#define USAGE "can|serial START IMAGE SRAM [to|from PLACE]"
 #include <signal.h>
 #include <sys/socket.h>
 #include <sys/wait.h>
 #include <termios.h>
 
+#include "arguments.h"
 #include "line.h"
+
+static const char *const names[] = {"PORT", "START", "IMAGE", "SRAM", "to or from", "PLACE"};
 
 /* One of the two ends of the line: the descriptor that is kept here, and the one of the head or of the truck. */
 struct end {
@@ -60,7 +64,7 @@ static int make_socket_pair(struct end *end)
 }
 
 /* Makes an end. No program that is started gets its descriptors, but for the one that start() hands over. */
-static int make_end(int port, struct end *end)
+static int make_end(uint32_t port, struct end *end)
 {
     if (!(port == BOOT_ASSIST_PORT_CAN ? make_socket_pair(end) : make_terminal(end)) ||
         fcntl(end->ours, F_SETFD, FD_CLOEXEC) != 0 || fcntl(end->theirs, F_SETFD, FD_CLOEXEC) != 0) {
@@ -141,23 +145,34 @@ static int ended_well(pid_t pid)
     return WIFEXITED(status) && WEXITSTATUS(status) == 0;
 }
 
+/* Tests the arguments that are the truck's, so that nothing is started with a bad one. */
+static void test_truck(const char *address, const char *file)
+{
+    static uint8_t image[BOOT_ASSIST_SRAM_SIZE];
+    argument_number("START", address, 16, UINT32_MAX);
+    argument_file("IMAGE", file, image, sizeof image);
+}
+
 int main(int argc, char **argv)
 {
-    int port = argc == 5 || argc == 7 ? line_port(argv[1]) : -1;
-    int to = argc == 7 && strcmp(argv[5], "to") == 0, from = argc == 7 && strcmp(argv[5], "from") == 0;
-    int64_t damage = argc == 7 ? line_number(argv[6], 10) : -1;
-    if (port < 0 || (argc == 7 && (damage < 0 || !(to || from)))) {
-        fprintf(stderr, "usage: wire can|serial START IMAGE SRAM [to|from PLACE]\n");
-        return 2;
+    struct end heads, trucks;
+    int64_t to = -1, from = -1;
+    argument_count(argc, argv, names, argc > 5 ? 6 : 4);
+    uint32_t port = argument_port("PORT", argv[1]);
+    test_truck(argv[2], argv[3]);
+    if (argc > 5) {
+        int64_t *damage = strcmp(argv[5], "to") == 0 ? &to : strcmp(argv[5], "from") == 0 ? &from : NULL;
+        if (damage == NULL)
+            argument_bad("direction", argv[5], "neither to nor from");
+        *damage = argument_number("PLACE", argv[6], 10, UINT32_MAX);
     }
     signal(SIGPIPE, SIG_IGN);
-    struct end heads, trucks;
     if (!make_end(port, &heads) || !make_end(port, &trucks))
         return 2;
     pid_t head = start(argv[0], "head", &heads, argv[1], (char *const[2]){argv[4], NULL});
     pid_t truck = start(argv[0], "truck", &trucks, argv[1], (char *const[2]){argv[2], argv[3]});
-    struct way to_head = {trucks.ours, heads.ours, 0, to ? damage : -1};
-    struct way from_head = {heads.ours, trucks.ours, 0, from ? damage : -1};
+    struct way to_head = {trucks.ours, heads.ours, 0, to};
+    struct way from_head = {heads.ours, trucks.ours, 0, from};
     carry(&to_head, &from_head);
     close(heads.ours);
     close(trucks.ours);

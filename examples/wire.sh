@@ -5,8 +5,15 @@
 #     sh examples/wire.sh PORT START IMAGE SRAM [to|from PLACE]
 #                                  an image of your own; examples/wire.c says what the arguments are
 set -eu
-root=$(cd "$(dirname "$0")/.." && pwd)
-out=$root/target/examples
+root=$(CDPATH= cd "$(dirname "$0")/.." && pwd)
+. "$root/examples/common.sh"
+usage "$@"
+if [ $# -gt 0 ]; then
+    names='PORT START IMAGE SRAM'
+    [ $# -le 4 ] || names="$names to|from PLACE"
+    takes "$names" "$@"
+    readable IMAGE "$3"
+fi
 for program in head truck wire; do
     sh "$root/examples/build.sh" "$program"
 done
