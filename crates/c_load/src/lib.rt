@@ -14,14 +14,14 @@ use sender::Verdict;
 use sender_load::Sender;
 use sender_load::Sent;
 
-// Whether there are as many bytes and numbers as a sender has.
-fn is_sender_sized(bytes: &[u8], numbers: &[u32]) -> bool
+// Whether there are places for a sender.
+fn has_places(bytes: &[u8], numbers: &[u32]) -> bool
     ensures { λ r. ⌜ r ≡ senderPlaces (asForm (now (bytes .entry)) (now (numbers .entry))) ⌝ }
 {
     (bytes.len() == SENDER_BYTES) & (numbers.len() == SENDER_WIDTH)
 }
 
-// Writes a sender over as many bytes and numbers as it has, and an item.
+// Writes a sender in its places, and an item in its.
 fn put_sender(bytes: &mut [u8], numbers: &mut [u32], sender: Sender)
     requires { ⌜ senderPlaces (asForm (now bytes) (now numbers)) ≡ true ⌝ }
     ensures { λ _. ⌜ SenderEncoding sender (asForm (now (bytes .exit)) (now (numbers .exit))) ⌝ }
@@ -58,7 +58,7 @@ pub fn begin(
         ≡ replyToBegin port start vle (now (password .entry)) (now (image .entry)) (asForm (now («sender_bytes» .entry)) (now (sender .entry)))
         ⌝ }
 {
-    if !is_sender_sized(sender_bytes, sender) {
+    if !has_places(sender_bytes, sender) {
         return 9;
     }
     if (port <= 1) & (password.len() == 8) {
@@ -91,7 +91,7 @@ pub fn ask(
         ≡ replyToAsk (asForm (now («sender_bytes» .entry)) (now (sender .entry))) (now (image .entry)) (asForm (now («item_bytes» .entry)) (now (item .entry)))
         ⌝ }
 {
-    if !is_sender_sized(sender_bytes, sender) {
+    if !has_places(sender_bytes, sender) {
         return 8;
     }
     let result = sender::ask(c_sender::read_sender(sender_bytes, sender), image);
@@ -148,7 +148,7 @@ pub fn tell(
         ≡ replyToTell (asForm (now («sender_bytes» .entry)) (now (sender .entry))) (now (image .entry)) port identifier (now (bytes .entry)) (now (verdict .entry))
         ⌝ }
 {
-    if !is_sender_sized(sender_bytes, sender) {
+    if !has_places(sender_bytes, sender) {
         return 8;
     }
     let heard = c_sender::port_of(port);

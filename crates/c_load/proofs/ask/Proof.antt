@@ -6,8 +6,8 @@ use Rattle.c_load.specs.Calls.{replyToAsk}
 use Rattle.c_load.proofs.ask.Statement.{statement}
 use Rattle.c_load.proofs.ask.Tie as tie
 
-is-sender-sized-requires : tie.Need-is-sender-sized-requires
-is-sender-sized-requires c κs = search needs
+has-places-requires : tie.Need-has-places-requires
+has-places-requires c κs = search needs
 
 same-length : tie.Need-same-length
 same-length c = search needs
@@ -18,7 +18,7 @@ same-length-2 c = search needs
 returns : tie.Need-returns
 unfolding replyToAsk
 returns c =
-    let sized = c .before .is-sender-sized in
+    let sized = c .before .has-places in
     rw (← sized .ensures, not-true (sized .result) (c .if1 .taken))
 
 read-sender-requires : tie.Need-read-sender-requires
@@ -40,7 +40,7 @@ returns-2 : tie.Need-returns-2
 unfolding replyToAsk
 returns-2 c =
     let test = c .before .before .before .before .before .before in
-    let sized = test .before .is-sender-sized in
+    let sized = test .before .has-places in
     rw (
       ← sized .ensures,
       not-false (sized .result) (test .if1 .left),
@@ -53,7 +53,7 @@ returns-2 c =
 put-sender-requires : tie.Need-put-sender-requires
 put-sender-requires c κs =
     let test = c .before .before .before .before .before .before .before .before .before .before .before in
-    let sized = test .before .is-sender-sized in
+    let sized = test .before .has-places in
     sym (sized .ensures) ∙ not-false (sized .result) (test .if1 .left)
 
 put-item-requires : tie.Need-put-item-requires
@@ -77,7 +77,7 @@ returns-3 c =
     let fits = c .before .before .before .before .before .before .before .before .before .before .before .before .before .before .before .before in
     let given = fits .before .before .before in
     let test = given .before .before .before .before in
-    let sized = test .before .is-sender-sized in
+    let sized = test .before .has-places in
     rw (
       c .before .before .before .before .put-item .ensures,
       c .before .before .before .before .before .before .before .before .before .before .before .put-sender .ensures .equation,
@@ -101,7 +101,7 @@ unfolding replyToAsk
 returns-4 c =
     let given = c .before .before .before in
     let test = given .before .before .before .before in
-    let sized = test .before .is-sender-sized in
+    let sized = test .before .has-places in
     rw (
       ← sized .ensures,
       not-false (sized .result) (test .if1 .left),
@@ -116,7 +116,7 @@ pub ask-spec : {M : Type 1} → statement M
 ask-spec =
     tie.close
     (tie.spec
-    is-sender-sized-requires
+    has-places-requires
     same-length
     same-length-2
     returns

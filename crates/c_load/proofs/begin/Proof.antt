@@ -6,8 +6,8 @@ use Rattle.c_load.specs.Calls.{replyToBegin}
 use Rattle.c_load.proofs.begin.Statement.{statement}
 use Rattle.c_load.proofs.begin.Tie as tie
 
-is-sender-sized-requires : tie.Need-is-sender-sized-requires
-is-sender-sized-requires c κs = search needs
+has-places-requires : tie.Need-has-places-requires
+has-places-requires c κs = search needs
 
 same-length : tie.Need-same-length
 same-length c = search needs
@@ -18,7 +18,7 @@ same-length-2 c = search needs
 returns : tie.Need-returns
 unfolding replyToBegin
 returns c =
-    let sized = c .before .is-sender-sized in
+    let sized = c .before .has-places in
     rw (← sized .ensures, not-true (sized .result) (c .if1 .taken))
 
 port-of-requires : tie.Need-port-of-requires
@@ -36,7 +36,7 @@ begin-requires c κs = search needs
 put-sender-requires : tie.Need-put-sender-requires
 put-sender-requires c κs =
     let test = c .before .before .before .before .before .before .before .before in
-    let sized = test .before .is-sender-sized in
+    let sized = test .before .has-places in
     sym (sized .ensures) ∙ not-false (sized .result) (test .if1 .left)
 
 begun-number-requires : tie.Need-begun-number-requires
@@ -53,7 +53,7 @@ unfolding replyToBegin
 returns-2 c =
     let begun = c .before .before .before .before .before .before .before .before .before in
     let test = begun .before .before .before .before .before in
-    let sized = test .before .is-sender-sized in
+    let sized = test .before .has-places in
     rw (
       c .begun-number .ensures,
       c .before .before .before .before .before .put-sender .ensures .equation,
@@ -72,7 +72,7 @@ no-load-requires c κs = search needs
 put-sender-requires-2 : tie.Need-put-sender-requires-2
 put-sender-requires-2 c κs =
     let test = c .before .before .before .before in
-    let sized = test .before .is-sender-sized in
+    let sized = test .before .has-places in
     sym (sized .ensures) ∙ not-false (sized .result) (test .if1 .left)
 
 same-length-5 : tie.Need-same-length-5
@@ -85,7 +85,7 @@ returns-3 : tie.Need-returns-3
 unfolding replyToBegin
 returns-3 c =
     let test = c .before .before .before .before .before .before .before .before .before in
-    let sized = test .before .is-sender-sized in
+    let sized = test .before .has-places in
     rw (
       c .before .before .before .before .put-sender2 .ensures .equation,
       c .before .before .before .before .before .no-load .ensures,
@@ -98,7 +98,7 @@ pub begin-spec : {M : Type 1} → statement M
 begin-spec =
     tie.close
     (tie.spec
-    is-sender-sized-requires
+    has-places-requires
     same-length
     same-length-2
     returns

@@ -6,8 +6,8 @@ use Rattle.c_load.specs.Calls.{replyToTell}
 use Rattle.c_load.proofs.tell.Statement.{statement}
 use Rattle.c_load.proofs.tell.Tie as tie
 
-is-sender-sized-requires : tie.Need-is-sender-sized-requires
-is-sender-sized-requires c κs = search needs
+has-places-requires : tie.Need-has-places-requires
+has-places-requires c κs = search needs
 
 same-length : tie.Need-same-length
 same-length c = search needs
@@ -18,7 +18,7 @@ same-length-2 c = search needs
 returns : tie.Need-returns
 unfolding replyToTell
 returns c =
-    let sized = c .before .is-sender-sized in
+    let sized = c .before .has-places in
     rw (← sized .ensures, not-true (sized .result) (c .if1 .taken))
 
 port-of-requires : tie.Need-port-of-requires
@@ -36,7 +36,7 @@ enum-known-told c = search needs
 put-verdict-requires : tie.Need-put-verdict-requires
 put-verdict-requires c κs =
     let test = c .before .before .before .before .before .before .before .before .before .before .before .before in
-    let sized = test .before .is-sender-sized in
+    let sized = test .before .has-places in
     sym (sized .ensures) ∙ not-false (sized .result) (test .if1 .left)
 
 enum-told : tie.Need-enum-told
@@ -62,7 +62,7 @@ unfolding replyToTell
 returns-2 c =
     let told = c .before .before .before .before .before .before .before .before .before .before .before .before in
     let test = told .before .before .before .before .before in
-    let sized = test .before .is-sender-sized in
+    let sized = test .before .has-places in
     rw (
       c .before .before .before .before .put-verdict .ensures,
       ← sized .ensures,
@@ -84,7 +84,7 @@ unfolding replyToTell
 returns-3 c =
     let told = c .before .before .before .before in
     let test = told .before .before .before .before .before in
-    let sized = test .before .is-sender-sized in
+    let sized = test .before .has-places in
     rw (
       c .told-number .ensures,
       ← sized .ensures,
@@ -106,7 +106,7 @@ unfolding replyToTell
 returns-4 c =
     let told = c .before .before .before .before in
     let test = told .before .before .before .before .before in
-    let sized = test .before .is-sender-sized in
+    let sized = test .before .has-places in
     rw (
       c .told-number2 .ensures,
       ← sized .ensures,
@@ -121,7 +121,7 @@ pub tell-spec : {M : Type 1} → statement M
 tell-spec =
     tie.close
     (tie.spec
-    is-sender-sized-requires
+    has-places-requires
     same-length
     same-length-2
     returns
