@@ -1,9 +1,11 @@
 //! The boot choice and its MMU rows: the inputs, and the comparison of the answers.
 
-use crate::c_numbers::{mode_number, table, table_name, MODES, TABLE};
-use crate::differences::{hex, line};
+use crate::c_numbers::{mode_number, mode_of, table, table_name, CHOICE_NAMES, ROWS, TABLE, WIDE};
+use crate::differences::{hex, lent_lines, line, room_lines};
+use crate::foreign::{self, Library};
+use crate::forms::{both, ChoiceForm, ChoiceRoom, Length, CHOICE, CUT, FRONT, MORE};
 use crate::random::Random;
-use crate::{foreign, Among, Tally};
+use crate::{Among, Tally};
 use reference::boot::{choose, Choice, Mode};
 use reference::mmu::{choice_rows, Row};
 use std::array;
@@ -15,13 +17,9 @@ const PLACES: [usize; 6] = [0, 0x4000, 0x1_0000, 0x1_C000, 0x2_0000, 0x3_0000];
 const NONE: u8 = 0;
 const ALL: u8 = 0x3F;
 
-const FLASH_MAX: usize = 2_097_152;
-const SHADOW: usize = 12;
-const HEAD: usize = 8;
-const FIELDS: usize = 8;
-const PASSWORD: usize = 8;
-/// Output buffers go on for this many behind the largest length handed in.
-const BEYOND: usize = 8;
+pub const FLASH_MAX: usize = 2_097_152;
+pub const SHADOW: usize = 12;
+pub const HEAD: usize = 8;
 /// The largest length handed in for rows, and how long their buffer is. It is filled at
 /// random: with other numbers here a seed gives other random inputs.
 const ROWS_MAX: usize = 130;
@@ -39,14 +37,9 @@ const MODE_NAMES: [&str; 5] = [
     "serial from external",
 ];
 
-/// In the order of boot_assist_field.
-const FIELD_NAMES: [&str; FIELDS] = [
-    "mode", "place", "looked", "jump", "watchdog", "bus16", "flash", "nexus",
-];
-
 /// Compares the systematic inputs, then `count` random ones. An error is the report
 /// of the first difference.
-pub fn run(random: Random, count: u64, tally: &mut Tally) -> Result<(), String> {
+pub fn run(mut random: Random, count: u64, tally: &mut Tally) -> Result<(), String> {
     for (thing, values) in [
         ("choice", &["0", "9"][..]),
         ("mode", &MODE_NAMES),
@@ -60,12 +53,14 @@ pub fn run(random: Random, count: u64, tally: &mut Tally) -> Result<(), String> 
     ] {
         tally.expect(thing, Among::Random, values);
     }
-    tally.expect("choice rows", Among::All, &["0", "9", "11"]);
+    tally.expect("choice rows", Among::Random, &["0", "9", "11"]);
 
     let mut boot = Boot {
+        library: Library::new(Random::new(random.number())),
         random,
         tally,
         flash: vec![BOOT_ID; FLASH_MAX + 1],
+        zeros: foreign::zeros(CUT + FLASH_MAX),
         at_random: false,
     };
     for bootcfg in 0..=3 {
@@ -81,7 +76,9 @@ pub fn run(random: Random, count: u64, tally: &mut Tally) -> Result<(), String> 
     boot.at_random = true;
     for _ in 0..count {
         boot.random_input()?;
+        boot.random_rows()?;
     }
+    boot.tally.calls.add(&boot.library.calls);
     Ok(())
 }
 
@@ -93,13 +90,13 @@ struct Input {
     places: [[u8; 8]; 6],
     shadow: Vec<u8>,
     head: Vec<u8>,
-    fields_len: usize,
-    password_len: usize,
+    /// The lengths of the choice: of the password and of the fields.
+    choice: Length,
 }
 
 impl fmt::Display for Input {
     fn fmt(&self, f: &mut fmt::Formatter) -> fmt::Result {
-        writeln!(f, "boot_assist_choice, BOOTCFG {}", self.bootcfg)?;
+        writeln!(f, "BOOTCFG {}", self.bootcfg)?;
         writeln!(f, "flash of {} bytes, at its places:", self.flash_len)?;
         for (place, bytes) in PLACES.into_iter().zip(&self.places) {
             let inside = self.flash_len.saturating_sub(place).min(8);
@@ -108,55 +105,25 @@ impl fmt::Display for Input {
         }
         writeln!(f, "shadow, {}:{}", self.shadow.len(), hex(&self.shadow))?;
         writeln!(f, "head, {}:{}", self.head.len(), hex(&self.head))?;
-        write!(f, "fields_len {}, ", self.fields_len)?;
-        writeln!(f, "password_len {}", self.password_len)
+        writeln!(f, "choice: {}", self.choice)
     }
 }
 
-/// What a call returned, and its output buffers after it.
-#[derive(Clone, PartialEq)]
-struct Answer {
-    number: u8,
-    words: Vec<u32>,
-    bytes: Vec<u8>,
-}
-
-impl Answer {
-    /// Output buffers of random content, for what a call must leave alone.
-    fn before(random: &mut Random, words: usize, bytes: usize) -> Self {
-        Answer {
-            number: 0,
-            words: (0..words).map(|_| random.number() as u32).collect(),
-            bytes: (0..bytes).map(|_| random.byte()).collect(),
-        }
-    }
-}
-
-/// Both answers side by side, with a star where they differ; words beyond `names` only
-/// where they differ. What a call must leave alone has its content before the call.
-fn side_by_side(ours: &Answer, reference: &Answer, names: &[String]) -> String {
-    let mut text = format!("  {:<16} {:<24} reference\n", "", "ours");
-    let number = |answer: &Answer| answer.number.to_string();
-    text += &line("number", &number(ours), &number(reference));
-    for (index, (ours, reference)) in ours.words.iter().zip(&reference.words).enumerate() {
-        let beyond = format!("beyond, {index}");
-        let name = names.get(index).unwrap_or(&beyond);
-        if index < names.len() || ours != reference {
-            text += &line(name, &format!("{ours:#x}"), &format!("{reference:#x}"));
-        }
-    }
-    for (ours, reference) in ours.bytes.chunks(8).zip(reference.bytes.chunks(8)) {
-        text += &line("password buffer", &hex(ours), &hex(reference));
-    }
-    text
+/// The title of both answers side by side, and what each returned.
+fn title(ours: u8, reference: u8) -> String {
+    let title = format!("  {:<16} {:<24} reference\n", "", "ours");
+    title + &line("number", &ours.to_string(), &reference.to_string())
 }
 
 struct Boot<'a> {
     random: Random,
+    library: Library,
     tally: &'a mut Tally,
-    /// Of the largest length handed in; a shorter flash is its beginning. Other places
+    /// One byte longer than the largest flash; a shorter one is its beginning. Other places
     /// than the six look good, so that a look there is seen.
     flash: Vec<u8>,
+    /// A longer one.
+    zeros: &'static [u8],
     /// Whether the inputs are now random ones, for the tally.
     at_random: bool,
 }
@@ -200,12 +167,12 @@ impl Boot<'_> {
             places: array::from_fn(|rank| self.block(good >> rank & 1 == 1)),
             shadow: self.shadow(censorship, serial),
             head: self.block(good_head).to_vec(),
-            fields_len: FIELDS,
-            password_len: PASSWORD,
+            choice: CHOICE,
         }
     }
 
-    /// Flash ends about each place's end, empty flash, the largest, and one too large.
+    /// Flash ends about each place's end, empty flash, the largest, and some too large, of
+    /// which 32 bits would cut the last ones to small ones.
     fn flash_lengths(&mut self, bootcfg: u8) -> Result<(), String> {
         for (rank, place) in PLACES.into_iter().enumerate() {
             for flash_len in place..=place + 16 {
@@ -215,7 +182,7 @@ impl Boot<'_> {
                 }
             }
         }
-        for flash_len in [0, FLASH_MAX, FLASH_MAX + 1] {
+        for flash_len in [0, FLASH_MAX, FLASH_MAX + 1, CUT, CUT + 8, CUT + FLASH_MAX] {
             for good in [NONE, ALL] {
                 for good_head in [false, true] {
                     let input = self.input(bootcfg, good, good_head);
@@ -311,9 +278,9 @@ impl Boot<'_> {
                 (FLASH_MAX, SHADOW - 1, HEAD),
                 (FLASH_MAX, SHADOW, HEAD + 1),
             ] {
-                for fields_len in 0..=16 {
-                    for password_len in 0..=16 {
-                        if (fields_len, password_len) == (FIELDS, PASSWORD) {
+                for numbers in 0..=CHOICE.numbers + MORE {
+                    for bytes in 0..=CHOICE.bytes + MORE {
+                        if both(bytes, numbers) == CHOICE {
                             continue;
                         }
                         let good = self.random.pick(&[NONE, ALL]);
@@ -322,8 +289,7 @@ impl Boot<'_> {
                         input.flash_len = flash_len;
                         input.shadow.resize(shadow_len, 0);
                         input.head.resize(head_len, 0);
-                        input.fields_len = fields_len;
-                        input.password_len = password_len;
+                        input.choice = both(bytes, numbers);
                         self.compare(&input)?;
                     }
                 }
@@ -376,10 +342,10 @@ impl Boot<'_> {
             input.head.resize(len, self.random.byte());
         }
         if self.random.chance(32) {
-            input.fields_len = self.random.below(17);
+            input.choice.numbers = self.random.below(CHOICE.numbers + MORE + 1);
         }
         if self.random.chance(32) {
-            input.password_len = self.random.below(17);
+            input.choice.bytes = self.random.below(CHOICE.bytes + MORE + 1);
         }
         self.compare(&input)
     }
@@ -388,32 +354,33 @@ impl Boot<'_> {
         for (place, block) in PLACES.into_iter().zip(&input.places) {
             self.flash[place..place + 8].copy_from_slice(block);
         }
-        let flash = &self.flash[..input.flash_len];
-        let before = Answer::before(&mut self.random, 16 + BEYOND, 16 + BEYOND);
+        let flash = match self.flash.get(..input.flash_len) {
+            Some(flash) => flash,
+            None => &self.zeros[..input.flash_len],
+        };
+        let before = ChoiceRoom::random(&mut self.random);
 
-        let mut ours = before.clone();
-        ours.number = foreign::choice(
+        let mut ours = before;
+        let number = self.library.choose(
             input.bootcfg,
             flash,
             &input.shadow,
             &input.head,
-            &mut ours.words[..input.fields_len],
-            &mut ours.bytes[..input.password_len],
+            &mut ours,
+            input.choice,
         );
 
         let expected = expected_choice(input, flash);
-        let mut reference = before;
+        let (mut due, mut reference) = (0, before);
         match &expected {
-            Ok(choice) => {
-                reference.words[..FIELDS].copy_from_slice(&fields(choice));
-                reference.bytes[..PASSWORD].copy_from_slice(&choice.password);
-            }
-            Err(number) => reference.number = *number,
+            Ok(choice) => reference.put(&form(choice)),
+            Err(number) => due = *number,
         }
 
-        if ours != reference {
-            let answers = side_by_side(&ours, &reference, &FIELD_NAMES.map(String::from));
-            return Err(format!("{input}{answers}"));
+        if (number, ours) != (due, reference) {
+            let lists = room_lines(ours.all(), reference.all(), CHOICE, CHOICE_NAMES);
+            let (way, title) = (self.library.way, title(number, due));
+            return Err(format!("{way}\n{input}{title}{lists}"));
         }
         self.count(input, &expected);
         Ok(())
@@ -433,7 +400,7 @@ impl Boot<'_> {
         count("looked", &choice.looked.to_string());
         count("flash", flag(choice.flash_on));
         count("nexus", flag(choice.nexus_on));
-        let of_flash = choice.password == input.shadow[..PASSWORD];
+        let of_flash = choice.password == input.shadow[..CHOICE.bytes];
         count("password", if of_flash { "flash" } else { "public" });
         // In a serial choice these two are always 0.
         if !matches!(choice.mode, Mode::Serial(_)) {
@@ -448,9 +415,9 @@ impl Boot<'_> {
         }
     }
 
-    /// Every mode there could be, with every length up to ROWS_MAX.
+    /// Every mode of 8 bits and wider ones, with every length up to ROWS_MAX.
     fn rows(&mut self) -> Result<(), String> {
-        for mode in 0..=255 {
+        for mode in (0..=255).chain(WIDE) {
             for rows_len in 0..=ROWS_MAX {
                 self.compare_rows(mode, rows_len)?;
             }
@@ -458,27 +425,43 @@ impl Boot<'_> {
         Ok(())
     }
 
-    fn compare_rows(&mut self, mode: u8, rows_len: usize) -> Result<(), String> {
-        let before = Answer::before(&mut self.random, ROWS_BUFFER, 0);
+    /// The rows of a random mode, mostly one that there is and with the right length.
+    fn random_rows(&mut self) -> Result<(), String> {
+        let mode = match self.random.below(16) {
+            0 => self.random.number() as u32,
+            1 => self.random.byte().into(),
+            2 => self.random.pick(&WIDE),
+            _ => self.random.below(5) as u32,
+        };
+        let rows_len = match self.random.below(8) {
+            0 => self.random.below(ROWS_MAX + 1),
+            1 => self.random.pick(&[0, TABLE - 1, TABLE + 1]),
+            _ => TABLE,
+        };
+        self.compare_rows(mode, rows_len)
+    }
 
-        let mut ours = before.clone();
-        ours.number = foreign::choice_rows(mode, &mut ours.words[..rows_len]);
+    fn compare_rows(&mut self, mode: u32, rows_len: usize) -> Result<(), String> {
+        let before: [u32; ROWS_BUFFER] = array::from_fn(|_| self.random.number() as u32);
 
-        let mut reference = before;
+        let mut ours = before;
+        let number = (self.library).choice_rows(mode, &mut ours[FRONT..][..rows_len]);
+
+        let (mut due, mut reference) = (0, before);
         match expected_rows(mode, rows_len) {
-            Ok(rows) => reference.words[..TABLE].copy_from_slice(&table(rows)),
-            Err(number) => reference.number = number,
+            Ok(rows) => reference[FRONT..][..TABLE].copy_from_slice(&table(rows)),
+            Err(number) => due = number,
         }
 
-        if ours != reference {
-            let names: Vec<String> = (0..TABLE).map(table_name).collect();
-            let answers = side_by_side(&ours, &reference, &names);
+        if (number, ours) != (due, reference) {
+            let numbers = lent_lines(&ours, &reference, TABLE, table_name);
+            let (way, title) = (self.library.way, title(number, due));
             return Err(format!(
-                "boot_assist_choice_rows, mode {mode}, rows_len {rows_len}\n{answers}"
+                "{way}, mode {mode:#x}, rows_len {rows_len}\n{title}{numbers}"
             ));
         }
         self.tally.inputs += 1;
-        let number = ours.number.to_string();
+        let number = number.to_string();
         self.tally.count("choice rows", &number, self.at_random);
         Ok(())
     }
@@ -486,32 +469,34 @@ impl Boot<'_> {
 
 /// The reference's answer, after what the C interface alone refuses.
 fn expected_choice(input: &Input, flash: &[u8]) -> Result<Choice, u8> {
-    if input.fields_len != FIELDS || input.password_len != PASSWORD {
+    if input.choice != CHOICE {
         return Err(9);
     }
     choose(input.bootcfg, flash, &input.shadow, &input.head)
 }
 
 /// As `expected_choice`, for the rows. External rows are refused whatever the length.
-fn expected_rows(mode: u8, rows_len: usize) -> Result<[Row; 5], u8> {
-    let &mode = MODES.get(usize::from(mode)).ok_or(9)?;
-    let rows = choice_rows(mode)?;
+fn expected_rows(mode: u32, rows_len: usize) -> Result<[Row; ROWS], u8> {
+    let rows = choice_rows(mode_of(mode).ok_or(9)?)?;
     if rows_len != TABLE {
         return Err(9);
     }
     Ok(rows)
 }
 
-/// In the order of boot_assist_field.
-fn fields(choice: &Choice) -> [u32; FIELDS] {
-    [
-        mode_number(choice.mode) as u32,
-        choice.place,
-        choice.looked,
-        choice.jump,
-        choice.watchdog.into(),
-        choice.bus16.into(),
-        choice.flash_on.into(),
-        choice.nexus_on.into(),
-    ]
+/// In the order of the members of boot_assist_choice.
+fn form(choice: &Choice) -> ChoiceForm {
+    ChoiceForm {
+        bytes: choice.password,
+        numbers: [
+            mode_number(choice.mode) as u32,
+            choice.place,
+            choice.looked,
+            choice.jump,
+            choice.watchdog.into(),
+            choice.bus16.into(),
+            choice.flash_on.into(),
+            choice.nexus_on.into(),
+        ],
+    }
 }

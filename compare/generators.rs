@@ -1,11 +1,12 @@
 //! Random inputs of a serial session, shaped like the protocol and bent: passwords,
-//! headers, items, lists of items, and the numbers of sessions.
+//! headers, items, lists of items, and the bytes and numbers of sessions.
 
 use crate::c_numbers::{
-    moves, Head, ANSWER, COUNT, ENTERED, FAULTY, HELD, NEXT, OWED, PORT, REFUSAL, REFUSALS,
-    SESSION, STAGE, START, VLE,
+    moves, Head, COUNT, ENTERED, FAULTY, HELD, NEXT, OWED, PORT, REFUSAL, REFUSALS, STAGE, START,
+    VLE,
 };
-use crate::harness::{Lengths, Parts, ANSWER_MAX, BASE, RIGHT, SESSION_MAX, SRAM, SRAM_MAX};
+use crate::forms::{both, Length, SessionForm, ANSWER, MORE, SESSION};
+use crate::harness::{Lengths, Parts, BASE, RIGHT, SRAM, SRAM_MAX};
 use crate::random::Random;
 use reference::boot::Entered;
 use reference::session::{Item, Port, Session, Stage};
@@ -120,7 +121,7 @@ impl Maker {
     }
 
     /// The mode of a serial choice.
-    pub fn mode(&mut self) -> u8 {
+    pub fn mode(&mut self) -> u32 {
         self.random.pick(&[2, 3, 4])
     }
 
@@ -374,26 +375,22 @@ impl Maker {
         }
     }
 
-    /// The numbers of a session that was entered so: sound, or bent about the edges of
-    /// soundness, or any.
-    pub fn session(&mut self, entered: u32) -> [u32; SESSION_MAX] {
-        if self.random.chance(32) {
-            return array::from_fn(|at| match at {
-                ENTERED => entered,
-                _ => self.random.pick(&NUMBERS),
-            });
-        }
-        let mut numbers = [0; SESSION_MAX];
-        numbers[ENTERED] = entered;
-        let selected = self.selected();
-        for (number, byte) in numbers.iter_mut().zip(selected) {
-            *number = byte.into();
-        }
+    /// A session that was entered so: sound, or bent about the edges of soundness, or of any
+    /// numbers.
+    pub fn session(&mut self, entered: u32) -> SessionForm {
+        let mut session = SessionForm::ZERO;
+        session.bytes[..HELD].copy_from_slice(&self.selected());
         // Places that hold no byte keep any.
         if self.random.chance(2) {
-            for place in &mut numbers[HELD..START] {
-                *place = self.random.byte().into();
+            session.bytes[HELD..].copy_from_slice(&self.octets());
+        }
+        let numbers = &mut session.numbers;
+        numbers[ENTERED] = entered;
+        if self.random.chance(32) {
+            for number in &mut numbers[..ENTERED] {
+                *number = self.random.pick(&NUMBERS);
             }
+            return session;
         }
         let vle = u32::from(self.random.chance(2));
         let port = u32::from(self.random.chance(2));
@@ -445,26 +442,28 @@ impl Maker {
             }
             _ => {}
         }
-        for number in &mut numbers[SESSION..] {
-            *number = self.random.pick(&NUMBERS);
-        }
         for _ in 0..self.random.pick(&[0, 0, 0, 1, 1, 2]) {
-            self.bend(&mut numbers);
+            self.bend(&mut session);
         }
-        numbers
+        session
     }
 
-    /// One number of a session made another, but not how it was entered.
-    fn bend(&mut self, numbers: &mut [u32]) {
+    /// A byte or a number of a session made another, but not how it was entered.
+    fn bend(&mut self, SessionForm { bytes, numbers }: &mut SessionForm) {
         let random = &mut self.random;
         let next = numbers[NEXT];
         let over = END.wrapping_sub(next).wrapping_add(1);
+        let any = random.below(ENTERED);
         #[rustfmt::skip]
         let (at, number) = match random.below(16) {
-            0 => (random.below(ENTERED), random.number() as u32),
-            1 | 2 => (random.below(ENTERED), random.pick(&NUMBERS)),
-            3 => (random.below(8), 0x100 + u32::from(random.byte())),
-            4 => (HELD + random.below(8), 0x100 << random.below(24)),
+            0 => (any, random.number() as u32),
+            1 | 2 => (any, random.pick(&NUMBERS)),
+            // The same in 8 bits.
+            3 => (any, numbers[any] | 0x100 << random.below(24)),
+            4 => {
+                bytes[random.below(SESSION.bytes)] = random.byte();
+                return;
+            }
             5 => (STAGE, random.pick(&[1, 2, 3, 4, 5, 6, 7, 0x100, 0x103])),
             6 => (PORT, random.pick(&[0, 1, 2, 0x100, 0x101])),
             7 | 8 => (COUNT, random.pick(&[0, 1, 7, 8, 9, 0xFF, 0x100, 0x101])),
@@ -484,11 +483,7 @@ impl Maker {
     pub fn lengths(&mut self) -> Lengths {
         let mut lengths = RIGHT;
         if self.random.chance(3) {
-            lengths.session = match self.random.below(3) {
-                0 => SESSION - 1,
-                1 => SESSION + 1,
-                _ => 1 + self.random.below(SESSION_MAX),
-            };
+            lengths.session = self.wrong(SESSION);
         }
         if self.random.chance(3) {
             lengths.sram = match self.random.below(4) {
@@ -499,13 +494,28 @@ impl Maker {
             };
         }
         if self.random.chance(2) {
-            lengths.answer = match self.random.below(3) {
-                0 => ANSWER - 1,
-                1 => ANSWER + 1,
-                _ => self.random.below(ANSWER_MAX + 1),
-            };
+            lengths.answer = self.wrong(ANSWER);
         }
         lengths
+    }
+
+    /// The lengths of two lists: mostly one of them is wrong, or both.
+    pub fn wrong(&mut self, right: Length) -> Length {
+        let Length { bytes, numbers } = right;
+        match self.random.below(3) {
+            0 => both(self.other_length(bytes), numbers),
+            1 => both(bytes, self.other_length(numbers)),
+            _ => both(self.other_length(bytes), self.other_length(numbers)),
+        }
+    }
+
+    fn other_length(&mut self, right: usize) -> usize {
+        match self.random.below(4) {
+            0 => right - 1,
+            1 => right + 1,
+            2 => 0,
+            _ => self.random.below(right + MORE + 1),
+        }
     }
 
     /// Something of a list made another.
@@ -521,11 +531,8 @@ impl Maker {
             5 => drop(parts.counts.pop()),
             6 => parts.bytes.push(byte),
             7 => drop(parts.bytes.pop()),
-            8 => parts.answers += self.random.pick(&[1, ANSWER]),
-            9 => {
-                let less = self.random.pick(&[1, ANSWER]);
-                parts.answers = parts.answers.saturating_sub(less);
-            }
+            8 => self.bend_answers(&mut parts.answers, usize::saturating_add),
+            9 => self.bend_answers(&mut parts.answers, usize::saturating_sub),
             10..=12 => {
                 if let Some(kind) = parts.kinds.get_mut(at) {
                     *kind = self
@@ -551,6 +558,17 @@ impl Maker {
                     *count = count.wrapping_add(0x8000_0000);
                 }
             }
+        }
+    }
+    /// The echoes or the answers of a list made longer or shorter, or both.
+    fn bend_answers(&mut self, answers: &mut Length, by: fn(usize, usize) -> usize) {
+        let which = self.random.below(3);
+        let whole = self.random.chance(2);
+        if which != 0 {
+            answers.bytes = by(answers.bytes, if whole { ANSWER.bytes } else { 1 });
+        }
+        if which != 1 {
+            answers.numbers = by(answers.numbers, if whole { ANSWER.numbers } else { 1 });
         }
     }
 }

@@ -3,27 +3,30 @@
 //! rows of the session that it left.
 
 use crate::c_numbers::{
-    answer_name, entered_of, moves, only, port_number, row, session_name, table, table_name, Head,
-    Row, ANSWER, ENTERED, JUMP, JUMP_VLE, SESSION, STAGE, TABLE, VLE,
+    answer_form, entered_of, moves, only, port_number, table, table_name, Head, ANSWER_NAMES,
+    ENTERED, HELD, JUMP, JUMP_VLE, NUMBER, ROWS, SESSION_NAMES, STAGE, START, TABLE, VLE,
 };
-use crate::differences::{hex, line, number_lines};
+use crate::differences::{hex, lent_lines, line, list_line, room_lines};
+use crate::foreign::Library;
+use crate::forms::{
+    both, AnswerForm, AnswerRoom, Both, Length, SessionForm, SessionRoom, ANSWER, AROUND, CUT,
+    FRONT, MORE, SESSION, WRONG,
+};
 use crate::random::Random;
-use crate::{foreign, Among, Tally};
+use crate::{Among, Tally};
 use reference::mmu::{self, session_rows};
 use reference::session::{load, picked, plain, stream, Answer, Item, Port, Session, Stage};
 use std::array;
 use std::fmt;
+use std::iter;
 use std::slice;
 
 pub const SRAM: usize = 65_536;
 pub const BASE: u32 = 0x4000_0000;
 
-/// The largest lengths handed in. The buffers go on for BEYOND behind them.
-pub const SESSION_MAX: usize = SESSION + 8;
-pub const SRAM_MAX: usize = SRAM + 8;
-pub const ANSWER_MAX: usize = ANSWER + 8;
+/// The largest lengths handed in.
+pub const SRAM_MAX: usize = SRAM + MORE;
 pub const ROWS_MAX: usize = TABLE + 24;
-const BEYOND: usize = 8;
 
 /// The numbers of an item: the form of a byte is never refused, and no frame is faulty.
 const CAN_NUMBERS: [&str; 10] = ["0", "1", "2", "3", "4", "5", "6", "7", "8", "9"];
@@ -40,8 +43,9 @@ pub const STAGES: [&str; 8] = [
     "stopped",
     "jumped",
 ];
-/// Why a session gets 8.
-const CAUSES: [&str; 3] = ["length", "no session", "not sound"];
+/// Why a session gets 8, beside the lengths.
+const NO_SESSION: &str = "no session";
+const NOT_SOUND: &str = "not sound";
 /// How serial boot was entered, in the order of boot_assist_mode from 2 on.
 const ENTRIES: [&str; 3] = ["directly", "from internal", "from external"];
 /// Where rows are answered: the stages in their order, with VLE 0 and 1 if they have it.
@@ -55,31 +59,28 @@ const ROWS_IN: [[&str; 2]; 6] = [
 ];
 const JUMPS: [[&str; 2]; 2] = [["CAN VLE 0", "CAN VLE 1"], ["serial VLE 0", "serial VLE 1"]];
 
-/// The numbers of a session and those behind them.
-type Numbers = [u32; SESSION_MAX + BEYOND];
-
-/// What a caller keeps from call to call.
+/// What a caller keeps from call to call, and what is around it.
 #[derive(Clone, PartialEq)]
 struct Kept {
-    session: Numbers,
+    session: SessionRoom,
     sram: Vec<u8>,
 }
 
 impl Kept {
     fn new() -> Self {
         Kept {
-            session: [0; SESSION_MAX + BEYOND],
-            sram: vec![0; SRAM_MAX + BEYOND],
+            session: SessionRoom::ZERO,
+            sram: vec![0; SRAM + AROUND],
         }
     }
 }
 
-/// The lengths that one call hands in; each buffer is the beginning of a longer one.
+/// The lengths that one call hands in.
 #[derive(Clone, Copy, PartialEq)]
 pub struct Lengths {
-    pub session: usize,
+    pub session: Length,
     pub sram: usize,
-    pub answer: usize,
+    pub answer: Length,
 }
 
 pub const RIGHT: Lengths = Lengths {
@@ -95,22 +96,20 @@ impl fmt::Display for Lengths {
             sram,
             answer,
         } = self;
-        writeln!(
-            f,
-            "lengths: session {session}, SRAM {sram}, answer {answer}"
-        )
+        write!(f, "lengths: session {session}, SRAM {sram}, ")?;
+        writeln!(f, "answer {answer}")
     }
 }
 
-/// What boot_assist_list is handed beside the session and SRAM.
+/// What a list's call is handed beside the session and SRAM.
 #[derive(Clone)]
 pub struct Parts {
     pub kinds: Vec<u8>,
     pub identifiers: Vec<u32>,
     pub counts: Vec<u32>,
     pub bytes: Vec<u8>,
-    /// The length of the answers.
-    pub answers: usize,
+    /// The lengths of the answers: of the echoes and of the numbers.
+    pub answers: Length,
 }
 
 impl Parts {
@@ -121,7 +120,7 @@ impl Parts {
             identifiers: Vec::new(),
             counts: Vec::new(),
             bytes: Vec::new(),
-            answers: ANSWER * items.len(),
+            answers: answers_of(items.len()),
         };
         for item in items {
             let (kind, bytes) = kind_and_bytes(item);
@@ -146,7 +145,7 @@ impl Parts {
         let sum: u64 = self.counts.iter().map(|&count| u64::from(count)).sum();
         self.identifiers.len() == count
             && self.counts.len() == count
-            && self.answers == ANSWER * count
+            && self.answers == answers_of(count)
             && self.kinds.iter().zip(&self.counts).all(shape)
             && sum == self.bytes.len() as u64
     }
@@ -161,7 +160,7 @@ impl fmt::Display for Parts {
             bytes,
             answers,
         } = self;
-        writeln!(f, "boot_assist_list, answers_len {answers}")?;
+        writeln!(f, "echoes and answers: {answers}")?;
         writeln!(f, "kinds, {}: {kinds:?}", kinds.len())?;
         writeln!(f, "identifiers, {}: {identifiers:X?}", identifiers.len())?;
         writeln!(f, "counts, {}: {counts:?}", counts.len())?;
@@ -169,16 +168,52 @@ impl fmt::Display for Parts {
     }
 }
 
+/// The lengths of the answers of so many items.
+fn answers_of(count: usize) -> Length {
+    both(ANSWER.bytes * count, ANSWER.numbers * count)
+}
+
+/// The answers of a list, and what is around them.
+#[derive(Clone)]
+struct Answers {
+    echoes: Vec<u8>,
+    numbers: Vec<u32>,
+}
+
+impl Answers {
+    fn random(length: Length, random: &mut Random) -> Self {
+        Answers {
+            echoes: (0..length.bytes + AROUND).map(|_| random.byte()).collect(),
+            numbers: (0..length.numbers + AROUND)
+                .map(|_| random.number() as u32)
+                .collect(),
+        }
+    }
+
+    fn put(&mut self, answers: &[AnswerForm]) {
+        let echoes = self.echoes[FRONT..].chunks_mut(ANSWER.bytes);
+        let numbers = self.numbers[FRONT..].chunks_mut(ANSWER.numbers);
+        for ((echo, numbers), answer) in echoes.zip(numbers).zip(answers) {
+            echo.copy_from_slice(&answer.bytes);
+            numbers.copy_from_slice(&answer.numbers);
+        }
+    }
+
+    fn all(&self) -> Both<'_> {
+        (&self.echoes, &self.numbers)
+    }
+}
+
 /// What happened since SRAM was filled.
 enum Step {
-    Session([u32; SESSION]),
+    Session(SessionForm),
     Item(Item),
 }
 
 /// One side of a comparison.
 struct Side<'a> {
     number: u8,
-    answer: &'a [u32],
+    answer: Both<'a>,
     kept: &'a Kept,
 }
 
@@ -190,6 +225,7 @@ impl PartialEq for Side<'_> {
 
 pub struct Harness<'a> {
     pub random: Random,
+    pub library: Library,
     tally: &'a mut Tally,
     /// Whether the inputs are now random ones, for the tally.
     pub at_random: bool,
@@ -206,9 +242,10 @@ pub struct Harness<'a> {
 }
 
 impl<'a> Harness<'a> {
-    pub fn new(random: Random, tally: &'a mut Tally) -> Self {
+    pub fn new(mut random: Random, tally: &'a mut Tally) -> Self {
         let mut rows_in = ROWS_IN.concat();
         rows_in.dedup();
+        let causes = [&WRONG[..], &[NO_SESSION, NOT_SOUND]].concat();
         for (thing, among, values) in [
             ("session", Among::All, &["0", "9"][..]),
             ("CAN", Among::Random, &CAN_NUMBERS),
@@ -216,17 +253,19 @@ impl<'a> Harness<'a> {
             ("stage", Among::Random, &STAGES),
             ("faulty in", Among::Random, &STAGES),
             ("jump", Among::Random, JUMPS.as_flattened()),
-            ("8 for", Among::Random, &CAUSES),
+            ("8 for", Among::Random, &causes),
+            ("9 for", Among::Random, &WRONG),
             ("list", Among::Random, &["0", "6", "7", "8"]),
             ("opening", Among::Random, &["CAN", "serial", "none"]),
             ("session rows", Among::Random, &["0", "8", "9", "11"]),
             ("rows in", Among::Random, &rows_in),
-            ("rows' 8 for", Among::Random, &CAUSES),
+            ("rows' 8 for", Among::Random, &causes),
             ("entered", Among::Random, &ENTRIES),
         ] {
             tally.expect(thing, among, values);
         }
         Harness {
+            library: Library::new(Random::new(random.number())),
             random,
             tally,
             at_random: false,
@@ -234,7 +273,7 @@ impl<'a> Harness<'a> {
             expected: Kept::new(),
             alone: Kept::new(),
             listed: Kept::new(),
-            first: vec![0; SRAM_MAX + BEYOND],
+            first: vec![0; SRAM + AROUND],
             seed: 0,
             trail: Vec::new(),
         }
@@ -253,93 +292,85 @@ impl<'a> Harness<'a> {
         }
     }
 
-    /// Goes on with a session of these numbers, and random ones behind them.
-    pub fn set(&mut self, numbers: &[u32]) {
-        self.ours.session = array::from_fn(|_| self.random.number() as u32);
-        self.ours.session[..numbers.len()].copy_from_slice(numbers);
+    /// Goes on with this session, and random bytes and numbers behind it.
+    pub fn set(&mut self, session: &SessionForm) {
+        self.ours.session = SessionRoom::random(&mut self.random);
+        self.ours.session.put(session);
         self.expected.session = self.ours.session;
-        self.trail.push(Step::Session(self.numbers()));
+        self.trail.push(Step::Session(*session));
     }
 
     /// The session at hand, which both have.
-    pub fn numbers(&self) -> [u32; SESSION] {
-        *self.ours.session.first_chunk().unwrap()
+    pub fn session(&self) -> SessionForm {
+        self.ours.session.form()
     }
 
     /// SRAM at hand, which both have.
     pub fn sram(&self) -> &[u8] {
-        &self.ours.sram[..SRAM]
+        &self.ours.sram[FRONT..][..SRAM]
     }
 
     /// The reference's session at hand, if it is sound.
     pub fn head(&self) -> Option<Head> {
-        Head::of(&self.numbers()).filter(|head| head.session.sound())
+        Head::of(self.session().all()).filter(|head| head.session.sound())
     }
 
     /// Goes on with a fresh session, if it is not refused.
-    pub fn fresh(&mut self, mode: u8, password: &[u8], session_len: usize) -> Result<(), String> {
-        self.ours.session = array::from_fn(|_| self.random.number() as u32);
+    pub fn fresh(&mut self, mode: u32, password: &[u8], length: Length) -> Result<(), String> {
+        self.ours.session = SessionRoom::random(&mut self.random);
         self.expected.session = self.ours.session;
-        let number = foreign::session(mode, password, &mut self.ours.session[..session_len]);
-        let due = match <[u8; 8]>::try_from(password) {
-            Ok(selected) if session_len == SESSION => match entered_of(mode.into()) {
-                Some(entered) => {
-                    let numbers = Head::fresh(entered, selected).numbers();
-                    self.expected.session[..SESSION].copy_from_slice(&numbers);
-                    0
-                }
-                None => 9,
-            },
+        let number = (self.library).fresh(mode, password, &mut self.ours.session, length);
+        let due = match (<[u8; 8]>::try_from(password), entered_of(mode)) {
+            (Ok(selected), Some(entered)) if length == SESSION => {
+                let session = Head::fresh(entered, selected).form();
+                self.expected.session.put(&session);
+                0
+            }
             _ => 9,
         };
-        self.compare("reference", (number, &[]), (due, &[]), || {
-            format!(
-                "boot_assist_session, mode {mode}, password, {}:{}, session_len {session_len}\n",
-                password.len(),
-                hex(password)
-            )
+        let (way, none) = (self.library.way, (&[][..], &[][..]));
+        self.compare("reference", (number, none), (due, none), || {
+            let (bytes, hex) = (password.len(), hex(password));
+            format!("{way}, mode {mode:#x}, password, {bytes}:{hex}, session {length}\n")
         })?;
         self.count("session", &number.to_string());
         if number == 0 {
-            self.trail.push(Step::Session(self.numbers()));
+            self.trail.push(Step::Session(self.session()));
             self.rows_at_hand()?;
         }
         Ok(())
     }
 
-    /// One item, with the lengths as told. The answer is the row of a list.
-    pub fn call(&mut self, item: &Item, lengths: Lengths) -> Result<Row, String> {
+    /// One item, with the lengths as told.
+    pub fn call(&mut self, item: &Item, lengths: Lengths) -> Result<AnswerForm, String> {
         let before = self.ours.session;
-        let mut answer: [u32; ANSWER_MAX + BEYOND] =
-            array::from_fn(|_| self.random.number() as u32);
+        let mut answer = AnswerRoom::random(&mut self.random);
         let mut expected = answer;
         let mark = self.mark(item);
-        let number = hand_in(&mut self.ours, item, mark, lengths, &mut answer);
+        let ours = &mut self.ours;
+        let number = hand_in(&mut self.library, ours, item, mark, lengths, &mut answer);
         let due = self.due(item, lengths);
-        let row = row(&due);
+        let form = answer_form(&due);
         if answered(due.number) {
-            expected[..ANSWER].copy_from_slice(&row);
+            expected.put(&form);
         }
+        let way = self.library.way;
         self.compare(
             "reference",
-            (number, &answer),
-            (due.number, &expected),
+            (number, answer.all()),
+            (due.number, expected.all()),
             || {
-                let session = session_line(&before[..lengths.session]);
-                let call = match item {
-                    Item::Frame { .. } => format!("boot_assist_frame, {}", shown(item)),
-                    Item::Byte { .. } => format!("boot_assist_byte, {}, {mark}", shown(item)),
-                };
-                format!("{call}\n{session}{lengths}")
+                let session = session_line(before.lent(lengths.session));
+                format!("{way}, {}, {mark}\n{session}{lengths}", shown(item))
             },
         )?;
-        self.count_call(item, &before[..lengths.session], &due);
+        self.count_call(item, &before, lengths, &due);
         if answered(due.number) || due.number == 6 {
             self.trail.push(Step::Item(item.clone()));
         }
         let rows_len = self.rows_len();
         self.rows(lengths.session, rows_len)?;
-        Ok(row)
+        Ok(form)
     }
 
     /// The reference's answer, after what the C interface alone refuses. Moves what is
@@ -351,8 +382,8 @@ impl<'a> Harness<'a> {
             jump: None,
         };
         let Kept { session, sram } = &mut self.expected;
-        let sram = &mut sram[..lengths.sram];
-        let Some(mut head) = Head::of(&session[..lengths.session]) else {
+        let sram = &mut sram[FRONT..][..lengths.sram];
+        let Some(mut head) = Head::of(session.lent(lengths.session)) else {
             return refused(if sram.len() == SRAM { 8 } else { 7 });
         };
         if lengths.answer != ANSWER {
@@ -362,7 +393,7 @@ impl<'a> Harness<'a> {
             };
         }
         let answer = head.item(sram, item);
-        session[..SESSION].copy_from_slice(&head.numbers());
+        session.put(&head.form());
         answer
     }
 
@@ -378,53 +409,59 @@ impl<'a> Harness<'a> {
     /// start.
     pub fn run(&mut self, items: &[Item]) -> Result<(), String> {
         self.listed.session = self.ours.session;
-        let mut rows = Vec::with_capacity(items.len());
+        let mut answers = Vec::with_capacity(items.len());
         for item in items {
-            rows.push(self.call(item, RIGHT)?);
+            answers.push(self.call(item, RIGHT)?);
         }
-        self.in_one_call(items, &rows)
+        self.in_one_call(items, &answers)
     }
 
     /// Demand 3, beside the comparison of every item: a list of items from a fresh
     /// session, with the stream alone beside it.
     pub fn run_fresh(
         &mut self,
-        mode: u8,
+        mode: u32,
         selected: [u8; 8],
         items: &[Item],
-    ) -> Result<Vec<Row>, String> {
+    ) -> Result<Vec<AnswerForm>, String> {
         self.fresh(mode, &selected, SESSION)?;
         self.alone.session = self.ours.session;
         self.listed.session = self.ours.session;
         self.first.copy_from_slice(&self.ours.sram);
 
         let mut stream = stream(items).into_iter().peekable();
-        let mut rows = Vec::with_capacity(items.len());
+        let mut answers = Vec::with_capacity(items.len());
         for (index, item) in items.iter().enumerate() {
-            let row = self.call(item, RIGHT)?;
+            let answer = self.call(item, RIGHT)?;
             let alone = if stream.next_if_eq(&index).is_some() {
                 self.call_alone(item)
             } else {
                 only(if refused_for_form(item) { 6 } else { 1 })
             };
             // The stream's session and SRAM do not move with another item.
-            let side = |row, kept| Side {
-                number: 0,
-                answer: row,
-                kept,
-            };
-            let (ours, other) = (side(&row, &self.ours), side(&alone, &self.alone));
-            if ours != other {
-                let answers = side_by_side("stream", &ours, &other);
-                return Err(self.report(&format!("demand 3, {}\n{answers}", shown(item))));
+            if answer != alone || self.ours != self.alone {
+                let [ours, other] = [answer, alone].map(|answer| {
+                    let mut room = AnswerRoom::ZERO;
+                    room.put(&answer);
+                    room
+                });
+                let side = |answer, kept| Side {
+                    number: 0,
+                    answer,
+                    kept,
+                };
+                let ours = side(ours.all(), &self.ours);
+                let other = side(other.all(), &self.alone);
+                let sides = side_by_side("stream", &ours, &other);
+                return Err(self.report(&format!("demand 3, {}\n{sides}", shown(item))));
             }
-            rows.push(row);
+            answers.push(answer);
         }
 
         let load = load(&selected, &plain(items));
-        let jumps = (rows.iter())
-            .filter(|row| row[0] == 5)
-            .map(|row| (row[JUMP], row[JUMP_VLE]));
+        let jumps = (answers.iter().map(|answer| answer.numbers))
+            .filter(|numbers| numbers[NUMBER] == 5)
+            .map(|numbers| (numbers[JUMP], numbers[JUMP_VLE]));
         let due = (load.iter()).map(|load| (load.start, u32::from(load.vle)));
         if !jumps.clone().eq(due.clone()) {
             let [jumps, due] = [Vec::from_iter(jumps), Vec::from_iter(due)];
@@ -433,7 +470,7 @@ impl<'a> Harness<'a> {
         }
         if let Some(load) = load {
             let from = (load.start - BASE) as usize;
-            self.first[from..][..load.bytes.len()].copy_from_slice(&load.bytes);
+            self.first[FRONT + from..][..load.bytes.len()].copy_from_slice(&load.bytes);
             if self.first != self.ours.sram {
                 let sram = sram_lines(&self.ours.sram, &self.first);
                 return Err(self.report(&format!("demand 3, SRAM by the plain list\n{sram}")));
@@ -441,43 +478,46 @@ impl<'a> Harness<'a> {
         }
         let opening = picked(items).map_or("none", |port| PORTS[port_number(port)]);
         self.count("opening", opening);
-        self.in_one_call(items, &rows)?;
-        Ok(rows)
+        self.in_one_call(items, &answers)?;
+        Ok(answers)
     }
 
     /// The library's answer to an item of the stream alone.
-    fn call_alone(&mut self, item: &Item) -> Row {
+    fn call_alone(&mut self, item: &Item) -> AnswerForm {
         self.tally.inputs += 1;
-        let mut answer = [0; ANSWER];
+        let mut answer = AnswerRoom::ZERO;
         let mark = self.mark(item);
-        let number = hand_in(&mut self.alone, item, mark, RIGHT, &mut answer);
+        let alone = &mut self.alone;
+        let number = hand_in(&mut self.library, alone, item, mark, RIGHT, &mut answer);
         if answered(number) {
-            answer
+            answer.form()
         } else {
             only(number)
         }
     }
 
     /// The list again, from where it started, against what the calls for each item left.
-    fn in_one_call(&mut self, items: &[Item], rows: &[Row]) -> Result<(), String> {
+    fn in_one_call(&mut self, items: &[Item], due: &[AnswerForm]) -> Result<(), String> {
         let parts = Parts::of(items, &mut self.random);
-        let mut answers = self.junk(parts.answers + BEYOND);
+        let mut answers = Answers::random(parts.answers, &mut self.random);
         let mut expected = answers.clone();
-        expected[..parts.answers].copy_from_slice(rows.as_flattened());
-        let number = hand_in_list(&mut self.listed, &parts, RIGHT, &mut answers);
+        expected.put(due);
+        let listed = &mut self.listed;
+        let number = hand_in_list(&mut self.library, listed, &parts, RIGHT, &mut answers);
         let ours = Side {
             number,
-            answer: &answers,
+            answer: answers.all(),
             kept: &self.listed,
         };
         let by_items = Side {
             number: 0,
-            answer: &expected,
+            answer: expected.all(),
             kept: &self.ours,
         };
         if ours != by_items {
-            let answers = side_by_side("item by item", &ours, &by_items);
-            return Err(self.report(&format!("in one call\n{parts}{answers}")));
+            let sides = side_by_side("item by item", &ours, &by_items);
+            let way = self.library.way;
+            return Err(self.report(&format!("in one call, {way}\n{parts}{sides}")));
         }
         self.tally.inputs += 1;
         self.count("list", "0");
@@ -490,7 +530,7 @@ impl<'a> Harness<'a> {
     pub fn refused_list(&mut self, parts: &Parts, lengths: Lengths) -> Result<bool, String> {
         let number = if lengths.sram != SRAM {
             7
-        } else if !Head::of(&self.ours.session[..lengths.session])
+        } else if !Head::of(self.ours.session.lent(lengths.session))
             .is_some_and(|head| head.session.sound())
         {
             8
@@ -500,17 +540,68 @@ impl<'a> Harness<'a> {
             return Ok(false);
         };
         let before = self.ours.session;
-        let expected = self.junk(parts.answers + BEYOND);
+        let expected = Answers::random(parts.answers, &mut self.random);
         let mut answers = expected.clone();
-        let ours = hand_in_list(&mut self.ours, parts, lengths, &mut answers);
-        self.compare("due", (ours, &answers), (number, &expected), || {
-            let session = session_line(&before[..lengths.session]);
-            format!("{parts}{session}{lengths}")
-        })?;
+        let ours = &mut self.ours;
+        let ours = hand_in_list(&mut self.library, ours, parts, lengths, &mut answers);
+        let way = self.library.way;
+        self.compare(
+            "due",
+            (ours, answers.all()),
+            (number, expected.all()),
+            || {
+                let session = session_line(before.lent(lengths.session));
+                format!("{way}\n{parts}{session}{lengths}")
+            },
+        )?;
         self.count("list", &number.to_string());
         let rows_len = self.rows_len();
         self.rows(lengths.session, rows_len)?;
         Ok(true)
+    }
+
+    /// In the session at hand, which is sound: a frame's data, a list's bytes and the SRAM of
+    /// each call, of lengths that would be right in 32 bits. All of it is 00 and cannot be
+    /// written.
+    pub fn long(&mut self, zeros: &mut [u8]) -> Result<(), String> {
+        let data = &zeros[..CUT + 8];
+        self.too_long("data", 6, |library, session, sram, answer| {
+            library.frame(session, sram, 0x013, data, (answer, ANSWER))
+        })?;
+        self.too_long("bytes", 6, |library, session, sram, answer| {
+            let (echo, numbers) = answer.lent_mut(ANSWER);
+            library.list(session, sram, &[1], &[0x013], &[8], data, echo, numbers)
+        })?;
+        let sram = &mut zeros[..CUT + SRAM];
+        self.too_long("SRAM", 7, |library, session, _, answer| {
+            library.frame(session, sram, 0x011, &[0xA5; 8], (answer, ANSWER))
+        })?;
+        self.too_long("SRAM", 7, |library, session, _, answer| {
+            library.byte(session, sram, 0xA5, 0, (answer, ANSWER))
+        })?;
+        self.too_long("SRAM", 7, |library, session, _, _| {
+            library.list(session, sram, &[], &[], &[], &[], &mut [], &mut [])
+        })
+    }
+
+    /// A call that gets this number and writes nothing.
+    fn too_long<Call>(&mut self, name: &str, due: u8, call: Call) -> Result<(), String>
+    where
+        Call: FnOnce(&mut Library, (&mut SessionRoom, Length), &mut [u8], &mut AnswerRoom) -> u8,
+    {
+        let before = AnswerRoom::random(&mut self.random);
+        let mut answer = before;
+        let Kept { session, sram } = &mut self.ours;
+        let number = call(
+            &mut self.library,
+            (session, SESSION),
+            &mut sram[FRONT..][..SRAM],
+            &mut answer,
+        );
+        let way = self.library.way;
+        self.compare("due", (number, answer.all()), (due, before.all()), || {
+            format!("{way}, too long: {name}\n")
+        })
     }
 
     /// The length of an output for rows, mostly the right one.
@@ -529,61 +620,58 @@ impl<'a> Harness<'a> {
     }
 
     /// The rows of the session at hand, with the lengths as told.
-    pub fn rows(&mut self, session_len: usize, rows_len: usize) -> Result<(), String> {
-        self.compare_rows(self.ours.session, session_len, rows_len)
+    pub fn rows(&mut self, length: Length, rows_len: usize) -> Result<(), String> {
+        self.compare_rows(self.ours.session, length, rows_len)
     }
 
     /// The rows of a session, which must be left as it is.
     fn compare_rows(
         &mut self,
-        session: Numbers,
-        session_len: usize,
+        session: SessionRoom,
+        length: Length,
         rows_len: usize,
     ) -> Result<(), String> {
-        let mut rows: [u32; ROWS_MAX + BEYOND] = array::from_fn(|_| self.random.number() as u32);
+        let mut rows: [u32; ROWS_MAX + AROUND] = array::from_fn(|_| self.random.number() as u32);
         let (mut expected, mut after) = (rows, session);
-        let number = foreign::session_rows(&mut after[..session_len], &mut rows[..rows_len]);
-        let due = match due_rows(&session[..session_len]) {
+        let number =
+            (self.library).session_rows(&mut after, length, &mut rows[FRONT..][..rows_len]);
+        let due = match due_rows(session.lent(length)) {
             Err(number) => number,
             Ok(_) if rows_len != TABLE => 9,
             Ok(rows) => {
-                expected[..TABLE].copy_from_slice(&table(rows));
+                expected[FRONT..][..TABLE].copy_from_slice(&table(rows));
                 0
             }
         };
         if (number, rows, after) != (due, expected, session) {
-            let mut text = format!("boot_assist_session_rows, rows_len {rows_len}\n");
-            text += &session_line(&session[..session_len]);
+            let mut text = format!("{}, rows_len {rows_len}\n", self.library.way);
+            text += &session_line(session.lent(length));
             text += &format!("  {:<16} {:<24} reference\n", "", "ours");
             text += &line("returned", &number.to_string(), &due.to_string());
-            text += &number_lines(&rows, &expected, TABLE, table_name);
-            text += &number_lines(&after, &session, 0, session_name);
+            text += &lent_lines(&rows, &expected, TABLE, table_name);
+            text += &session_lines(&after, &session, both(0, 0));
             return Err(self.report(&text));
         }
         self.tally.inputs += 1;
         self.count("session rows", &number.to_string());
         if number == 8 {
-            self.count("rows' 8 for", cause(&session[..session_len]));
+            self.count("rows' 8 for", cause(session.lent(length)));
         } else {
-            self.count("entered", ENTRIES[session[ENTERED] as usize - 2]);
+            self.count("entered", ENTRIES[session.number(ENTERED) as usize - 2]);
         }
         if number == 0 {
-            let [stage, vle] = [STAGE, VLE].map(|at| session[at] as usize);
+            let [stage, vle] = [STAGE, VLE].map(|at| session.number(at) as usize);
             self.count("rows in", ROWS_IN[stage][vle]);
         }
         Ok(())
-    }
-
-    fn junk(&mut self, length: usize) -> Vec<u32> {
-        (0..length).map(|_| self.random.number() as u32).collect()
     }
 
     /// Compares what a call returned and wrote with what it should have.
     fn compare(
         &mut self,
         other: &str,
-        ours: (u8, &[u32]),
-        expected: (u8, &[u32]),
+        ours: (u8, Both),
+        expected: (u8, Both),
         input: impl Fn() -> String,
     ) -> Result<(), String> {
         let side = |(number, answer), kept| Side {
@@ -609,8 +697,8 @@ impl<'a> Harness<'a> {
         let mut number = 0;
         for step in &self.trail {
             match step {
-                Step::Session(numbers) => {
-                    text += &session_line(numbers);
+                Step::Session(session) => {
+                    text += &session_line(session.all());
                     number = 0;
                 }
                 Step::Item(item) => {
@@ -626,8 +714,14 @@ impl<'a> Harness<'a> {
         self.tally.count(thing, value, self.at_random);
     }
 
+    /// Counts the calls of the library, when all are made.
+    pub fn count_calls(&mut self) {
+        self.tally.calls.add(&self.library.calls);
+    }
+
     /// Counts an answer that both gave to an item.
-    fn count_call(&mut self, item: &Item, before: &[u32], answer: &Answer) {
+    fn count_call(&mut self, item: &Item, before: &SessionRoom, lengths: Lengths, answer: &Answer) {
+        let before = before.lent(lengths.session);
         let port = match item {
             Item::Frame { .. } => port_number(Port::Can),
             Item::Byte { .. } => port_number(Port::Serial),
@@ -643,6 +737,9 @@ impl<'a> Harness<'a> {
                     self.count("faulty in", stage);
                 }
             }
+        }
+        if answer.number == 9 {
+            self.count("9 for", lengths.answer.wrong(ANSWER).unwrap());
         }
         if let Some((_, vle)) = answer.jump {
             self.count("jump", JUMPS[port][usize::from(vle)]);
@@ -687,46 +784,57 @@ pub fn refused_for_form(item: &Item) -> bool {
     }
 }
 
-/// Why the session of these numbers gets 8.
-fn cause(numbers: &[u32]) -> &'static str {
-    let [length, no_session, not_sound] = CAUSES;
-    if numbers.len() != SESSION {
-        length
-    } else if Head::of(numbers).is_none() {
-        no_session
+/// Why this session gets 8.
+fn cause(session: Both) -> &'static str {
+    if let Some(wrong) = Length::of(session).wrong(SESSION) {
+        wrong
+    } else if Head::of(session).is_none() {
+        NO_SESSION
     } else {
-        not_sound
+        NOT_SOUND
     }
 }
 
-/// The reference's rows of the session that has these numbers. That there is one is asked
-/// by the C interface alone.
-fn due_rows(numbers: &[u32]) -> Result<[mmu::Row; 5], u8> {
-    let head = Head::of(numbers).ok_or(8)?;
+/// The reference's rows of this session. That there is one is asked by the C interface
+/// alone.
+fn due_rows(session: Both) -> Result<[mmu::Row; ROWS], u8> {
+    let head = Head::of(session).ok_or(8)?;
     session_rows(&head.session)
 }
 
-fn hand_in(kept: &mut Kept, item: &Item, mark: u8, lengths: Lengths, answer: &mut [u32]) -> u8 {
-    let session = &mut kept.session[..lengths.session];
-    let sram = &mut kept.sram[..lengths.sram];
-    let answer = &mut answer[..lengths.answer];
+fn hand_in(
+    library: &mut Library,
+    kept: &mut Kept,
+    item: &Item,
+    mark: u8,
+    lengths: Lengths,
+    answer: &mut AnswerRoom,
+) -> u8 {
+    let session = (&mut kept.session, lengths.session);
+    let sram = &mut kept.sram[FRONT..][..lengths.sram];
+    let answer = (answer, lengths.answer);
     match item {
-        Item::Frame { identifier, data } => {
-            foreign::frame(session, sram, *identifier, data, answer)
-        }
-        Item::Byte { value, .. } => foreign::byte(session, sram, *value, mark, answer),
+        Item::Frame { identifier, data } => library.frame(session, sram, *identifier, data, answer),
+        Item::Byte { value, .. } => library.byte(session, sram, *value, mark, answer),
     }
 }
 
-fn hand_in_list(kept: &mut Kept, parts: &Parts, lengths: Lengths, answers: &mut [u32]) -> u8 {
-    foreign::list(
-        &mut kept.session[..lengths.session],
-        &mut kept.sram[..lengths.sram],
+fn hand_in_list(
+    library: &mut Library,
+    kept: &mut Kept,
+    parts: &Parts,
+    lengths: Lengths,
+    answers: &mut Answers,
+) -> u8 {
+    library.list(
+        (&mut kept.session, lengths.session),
+        &mut kept.sram[FRONT..][..lengths.sram],
         &parts.kinds,
         &parts.identifiers,
         &parts.counts,
         &parts.bytes,
-        &mut answers[..parts.answers],
+        &mut answers.echoes[FRONT..][..parts.answers.bytes],
+        &mut answers.numbers[FRONT..][..parts.answers.numbers],
     )
 }
 
@@ -742,47 +850,53 @@ fn shown(item: &Item) -> String {
     }
 }
 
-fn session_line(numbers: &[u32]) -> String {
-    let mut text = format!("session, {} numbers:", numbers.len());
-    for (index, number) in numbers.iter().enumerate() {
-        // The password, the stage with port and count, the held bytes, what the stage has, how
-        // serial boot was entered.
-        let comma = if matches!(index, 8 | 11 | 19 | 24) {
-            ","
-        } else {
-            ""
-        };
-        text += &format!("{comma} {number:X}");
-    }
-    text + "\n"
+/// The password and the held bytes; the stage with port and count, what the stage has, how
+/// serial boot was entered.
+fn session_line(session: Both) -> String {
+    list_line("session", session, [&[HELD], &[START, ENTERED]])
 }
 
-/// Both sides, with a star where they differ; of what is behind the numbers, of a list's
+fn session_lines(ours: &SessionRoom, expected: &SessionRoom, shown: Length) -> String {
+    room_lines(ours.all(), expected.all(), shown, SESSION_NAMES)
+}
+
+/// Both sides, with a star where they differ; of what is around the lists, of a list's
 /// answers and of SRAM only what differs. What a call must leave alone has its content
 /// before the call.
 fn side_by_side(other: &str, ours: &Side, expected: &Side) -> String {
     let mut text = format!("  {:<16} {:<24} {other}\n", "", "ours");
     let number = |side: &Side| side.number.to_string();
     text += &line("returned", &number(ours), &number(expected));
-    let of_one_item = ours.answer.len() <= ANSWER_MAX + BEYOND;
+    let [left, right] = [ours, expected].map(|side| side.answer);
+    let of_one_item = left.1.len() == ANSWER.numbers + AROUND;
     if of_one_item {
-        text += &number_lines(ours.answer, expected.answer, ANSWER, answer_name);
+        text += &room_lines(left, right, ANSWER, ANSWER_NAMES);
     }
-    let [left, right] = [ours, expected].map(|side| &side.kept.session[..]);
-    text += &number_lines(left, right, SESSION, session_name);
-    if !of_one_item {
-        text += &row_lines(other, ours.answer, expected.answer);
+    text += &session_lines(&ours.kept.session, &expected.kept.session, SESSION);
+    if !of_one_item && !left.1.is_empty() {
+        text += &item_lines(["echoes", other], left.0, right.0, ANSWER.bytes);
+        text += &item_lines(["answers", other], left.1, right.1, ANSWER.numbers);
     }
     text + &sram_lines(&ours.kept.sram, &expected.kept.sram)
 }
 
-fn row_lines(other: &str, ours: &[u32], expected: &[u32]) -> String {
-    let rows = ours.chunks(ANSWER).zip(expected.chunks(ANSWER));
-    let differ: Vec<_> = (1..)
-        .zip(rows)
+/// The items whose echoes or numbers differ, of which each has `count`. Before the first is
+/// what is in front of them.
+fn item_lines<T: fmt::Debug + PartialEq>(
+    [name, other]: [&str; 2],
+    ours: &[T],
+    expected: &[T],
+    count: usize,
+) -> String {
+    let items = |list| {
+        let (front, lent): (&[T], &[T]) = <[T]>::split_at(list, FRONT);
+        iter::once(front).chain(lent.chunks(count))
+    };
+    let differ: Vec<_> = (0..)
+        .zip(items(ours).zip(items(expected)))
         .filter(|(_, (ours, expected))| ours != expected)
         .collect();
-    let mut text = format!("  answers that differ: {}\n", differ.len());
+    let mut text = format!("  {name} that differ: {}\n", differ.len());
     for (number, (ours, expected)) in differ.iter().take(8) {
         text += &format!("* {number}, ours: {ours:X?}\n");
         text += &format!("* {number}, {other}: {expected:X?}\n");
@@ -797,7 +911,8 @@ fn sram_lines(ours: &[u8], expected: &[u8]) -> String {
     let mut text = format!("  SRAM bytes that differ: {}\n", differ.len());
     for &index in differ.iter().take(16) {
         let [left, right] = [ours, expected].map(|sram| format!("{:02X}", sram[index]));
-        text += &line(&format!("{:#x}", BASE as usize + index), &left, &right);
+        let address = BASE as usize + index - FRONT;
+        text += &line(&format!("{address:#x}"), &left, &right);
     }
     text
 }

@@ -1,15 +1,16 @@
-//! Hands the same inputs to the library and to the reference, and compares the
-//! answers: `compare [SEED] [COUNT] [LISTS] [CAPTURES] [SENDERS]`, with COUNT random boot
-//! inputs, LISTS random lists of session items and as many random sessions, CAPTURES random
-//! captures, for which the program target/bin/replay, or the one that the environment's
-//! REPLAY names, is run, and SENDERS random senders, as many of their beginnings and runs,
-//! and some whole loads.
+//! Hands the same inputs to the library, by flat and by typed calls, and to the reference,
+//! and compares the answers: `compare [SEED] [COUNT] [LISTS] [CAPTURES] [SENDERS]`, with
+//! COUNT random boot inputs and as many random modes, LISTS random lists of session items
+//! and as many random sessions, CAPTURES random captures, for which the program
+//! target/bin/replay, or the one that the environment's REPLAY names, is run, and SENDERS
+//! random senders, as many of their beginnings and runs, and some whole loads.
 
 mod boot;
 mod c_numbers;
 mod capture;
 mod differences;
 mod foreign;
+mod forms;
 mod generators;
 mod harness;
 mod random;
@@ -23,8 +24,10 @@ mod sender_images;
 mod sender_loads;
 mod session;
 mod session_exchanges;
+mod typed;
 mod vectors;
 
+use foreign::Calls;
 use random::Random;
 use replay_program::Program;
 use std::env;
@@ -55,6 +58,10 @@ fn main() -> ExitCode {
         }
     };
     println!("compare: seed {seed:#x}, program {:?}", program.name);
+    if let Err(difference) = c_numbers::same_enums().and_then(|()| typed::same_header()) {
+        println!("compare: difference\n{difference}");
+        return ExitCode::FAILURE;
+    }
 
     let parts = thread::scope(|scope| {
         let boot = scope.spawn(|| tallied(|tally| boot::run(Random::new(seed), count, tally)));
@@ -86,6 +93,8 @@ fn main() -> ExitCode {
     if !missing.is_empty() {
         return ExitCode::FAILURE;
     }
+    let [flat, typed] = tally.calls.made();
+    println!("compare: {flat} flat calls, {typed} typed calls");
     println!("compare: {} inputs compared, 0 differences", tally.inputs);
     ExitCode::SUCCESS
 }
@@ -128,6 +137,7 @@ fn parse(text: &str) -> Option<u64> {
 #[derive(Default)]
 pub struct Tally {
     pub inputs: u64,
+    pub calls: Calls,
     lines: Vec<Line>,
 }
 
@@ -177,11 +187,12 @@ impl Tally {
 
     fn add(&mut self, part: Tally) {
         self.inputs += part.inputs;
+        self.calls.add(&part.calls);
         self.lines.extend(part.lines);
     }
 
     fn missing(&self) -> Vec<String> {
-        let mut missing = Vec::new();
+        let mut missing = self.calls.missing();
         for line in &self.lines {
             for value in &line.values {
                 match line.among {
@@ -215,6 +226,6 @@ impl fmt::Display for Tally {
             }
             writeln!(f)?;
         }
-        Ok(())
+        write!(f, "{}", self.calls)
     }
 }

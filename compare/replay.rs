@@ -80,6 +80,7 @@ pub fn run(
         let cases: Vec<_> = batch.map(|index| random_case(index, &mut maker)).collect();
         run.compare(&cases)?;
     }
+    run.reader.count_calls(run.tally);
     Ok(())
 }
 

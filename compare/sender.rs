@@ -1,11 +1,9 @@
 //! The truck's side of a load: fixed inputs, random beginnings, runs and senders, and
 //! whole loads.
 
-use crate::c_numbers::{
-    sender_enums, ITEM, SENDER, SENDER_GOING, SENDER_IMAGE_LENGTH, SENDER_OUT, SENDER_PASSWORD,
-    SENDER_PLACE, SENDER_PORT, SENDER_START, SENDER_VLE,
-};
-use crate::foreign;
+use crate::c_numbers::{SENDER_GOING, SENDER_OUT, SENDER_START, WIDE};
+use crate::foreign::{self, VERDICT};
+use crate::forms::{ItemForm, SenderForm, SenderRoom, ITEM, SENDER};
 use crate::generators::{Maker, PUBLIC};
 use crate::harness::{BASE, SRAM};
 use crate::random::Random;
@@ -22,7 +20,6 @@ const TO_A_LOAD: u64 = 12;
 /// Compares the fixed inputs, then `count` random beginnings, runs and senders and some
 /// whole loads, then large ones. An error is the report of the first difference.
 pub fn run(mut random: Random, count: u64, tally: &mut Tally) -> Result<(), String> {
-    sender_enums()?;
     let mut both = Senders::new(Random::new(random.number()), tally);
     let loads = [LOADS.as_flattened(), &["wrong", "illegal"]].concat();
     both.expect("load", &loads);
@@ -50,30 +47,24 @@ pub fn run(mut random: Random, count: u64, tally: &mut Tally) -> Result<(), Stri
         }
     }
     run.both.at_random = false;
-    run.large_loads()
+    run.large_loads()?;
+    run.both.count_calls();
+    Ok(())
 }
 
-/// The numbers of a load that is going: 002's password and start, with VLE.
-fn sample(port: u32, length: usize, place: u32, out: u32) -> [u32; SENDER] {
-    let mut numbers = [0; SENDER];
-    numbers[SENDER_GOING] = 1;
-    for (number, byte) in numbers[SENDER_PASSWORD..].iter_mut().zip(PUBLIC) {
-        *number = byte.into();
+/// A load that is going: 002's password and start, with VLE.
+fn sample(port: u32, length: usize, place: u32, out: u32) -> SenderForm {
+    SenderForm {
+        bytes: PUBLIC,
+        numbers: [1, port, BASE, 1, length as u32, place, out],
     }
-    numbers[SENDER_PORT] = port;
-    numbers[SENDER_START] = BASE;
-    numbers[SENDER_VLE] = 1;
-    numbers[SENDER_IMAGE_LENGTH] = length as u32;
-    numbers[SENDER_PLACE] = place;
-    numbers[SENDER_OUT] = out;
-    numbers
 }
 
 /// A run of a load: the image, the item asked for last, and the one before it.
 struct Going {
     image: Image,
-    item: [u32; ITEM],
-    before: [u32; ITEM],
+    item: ItemForm,
+    before: ItemForm,
 }
 
 struct Run<'a> {
@@ -87,18 +78,18 @@ impl Run<'_> {
     fn beginnings(&mut self) -> Result<(), String> {
         for start in STARTS {
             for length in LENGTHS {
-                for port in [0, 1, 2] {
+                for port in [0, 1, 2, 0x100, 0x101] {
                     for password_len in [7, 8, 9] {
-                        for sender_len in [SENDER - 1, SENDER, SENDER + 1] {
+                        for sender in SENDER.few() {
                             let begin = Begin {
                                 port,
                                 start,
                                 vle: self.maker.random.byte(),
                                 password: self.maker.bytes(password_len),
                                 image: self.maker.image_of(length),
-                                sender_len,
+                                sender,
                             };
-                            self.both.set(&[]);
+                            self.both.clear();
                             self.both.begin(&begin)?;
                         }
                     }
@@ -108,14 +99,22 @@ impl Run<'_> {
         Ok(())
     }
 
-    /// Every port, and every number for VLE.
+    /// Every port of 8 bits and wider ones, and every number for VLE; lengths of the sender.
     fn ports_and_vles(&mut self) -> Result<(), String> {
         let mut begin = self.maker.good_begin(40);
-        for port in 0..=255 {
+        for port in (0..=255).chain(WIDE) {
             for vle in 0..=255 {
                 begin.port = port;
                 begin.vle = vle;
-                self.both.set(&[]);
+                self.both.clear();
+                self.both.begin(&begin)?;
+            }
+        }
+        for port in [0, 1, 2] {
+            for sender in SENDER.many() {
+                begin.port = port;
+                begin.sender = sender;
+                self.both.clear();
                 self.both.begin(&begin)?;
             }
         }
@@ -131,11 +130,11 @@ impl Run<'_> {
                 for port in [0, 1, 2, 1 << 31] {
                     for place in [0, 8, 9, 16, 25, !7] {
                         for start in [BASE, BASE - 1] {
-                            let mut numbers = sample(port, 9, place, out);
-                            numbers[SENDER_GOING] = going;
-                            numbers[SENDER_START] = start;
-                            self.refusals_of(&numbers, image)?;
-                            self.refusals_of(&numbers, longer)?;
+                            let mut sender = sample(port, 9, place, out);
+                            sender.numbers[SENDER_GOING] = going;
+                            sender.numbers[SENDER_START] = start;
+                            self.refusals_of(&sender, image)?;
+                            self.refusals_of(&sender, longer)?;
                         }
                     }
                 }
@@ -144,19 +143,23 @@ impl Run<'_> {
         Ok(())
     }
 
-    fn refusals_of(&mut self, numbers: &[u32; SENDER], image: Image) -> Result<(), String> {
-        for sender_len in [0, SENDER - 1, SENDER, SENDER + 1] {
-            for item_len in [0, ITEM - 1, ITEM, ITEM + 1] {
-                self.both.set(numbers);
+    fn refusals_of(&mut self, sender: &SenderForm, image: Image) -> Result<(), String> {
+        for sender_len in SENDER.many() {
+            let items = match sender_len {
+                SENDER => ITEM.many(),
+                _ => ITEM.few().to_vec(),
+            };
+            for item_len in items {
+                self.both.set(sender);
                 self.both.ask_with(image, sender_len, item_len)?;
             }
-            for port in [0, 1, 2, 255] {
+            for port in [0, 1, 2, 255, 256, 257, !0] {
                 let told = Told {
                     port,
                     identifier: 0x001,
                     bytes: PUBLIC[..if port == 0 { 8 } else { 1 }].to_vec(),
                 };
-                self.both.set(numbers);
+                self.both.set(sender);
                 self.both.tell_with(image, sender_len, &told)?;
             }
         }
@@ -172,14 +175,14 @@ impl Run<'_> {
             for place in (0..50).chain(far) {
                 for port in [0, 1, 7] {
                     for out in [0, 1, 2] {
-                        let numbers = sample(port, length, place, out);
-                        self.both.set(&numbers);
-                        let item = self.both.ask(image)?.unwrap_or_default();
+                        let sender = sample(port, length, place, out);
+                        self.both.set(&sender);
+                        let item = self.both.ask(image)?.unwrap_or(ItemForm::ZERO);
                         self.both.tell(image, &Told::echo_of(&item))?;
-                        self.both.set(&numbers);
+                        self.both.set(&sender);
                         self.both.tell(image, &Told::echo_of(&item))?;
-                        self.both.set(&numbers);
-                        self.both.tell(image, &Told::echo_of(&[0; ITEM]))?;
+                        self.both.set(&sender);
+                        self.both.tell(image, &Told::echo_of(&ItemForm::ZERO))?;
                     }
                 }
             }
@@ -204,11 +207,11 @@ impl Run<'_> {
                 (1, 16),
                 (1, 15 + length as u32),
             ] {
-                let numbers = sample(port, length, place, 1);
-                self.both.set(&numbers);
-                let item = self.both.ask(image)?.unwrap_or_default();
+                let sender = sample(port, length, place, 1);
+                self.both.set(&sender);
+                let item = self.both.ask(image)?.unwrap_or(ItemForm::ZERO);
                 for told in others(&Told::echo_of(&item)) {
-                    self.both.set(&numbers);
+                    self.both.set(&sender);
                     self.both.tell(image, &told)?;
                 }
             }
@@ -217,44 +220,50 @@ impl Run<'_> {
     }
 
     /// Echoes that would be the item's if their length had 32 bits. By the header any other
-    /// echo abandons the load.
+    /// echo abandons the load. Each is told often enough for a flat and a typed call.
     fn long_echoes(&mut self) -> Result<(), String> {
         let zeros = foreign::zeros((1 << 32) + 8);
         for (port, count) in [(0, 8), (1, 1)] {
-            let echo = &mut zeros[..(1 << 32) + count];
-            let (mut image, mut verdict) = ([0; 9], [0xFF; 8]);
-            let mut numbers = sample(port, image.len(), 0, 1);
-            numbers[SENDER_PASSWORD..SENDER_PORT].fill(0);
-            let port = port as u8;
-            let number = foreign::tell(&mut numbers, &mut image, port, 0x001, echo, &mut verdict);
-            if (number, verdict[0], numbers) != (0, 2, [0; SENDER]) {
-                let length = echo.len();
-                return Err(format!(
-                    "boot_assist_tell, port {port}, {length} bytes 00 for {count}\n\
-                     returned {number}, verdict {}, sender {numbers:X?}\n",
-                    verdict[0]
-                ));
+            for _ in 0..8 {
+                let echo = &mut zeros[..(1 << 32) + count];
+                let (mut image, mut verdict) = ([0; 9], [0xFF; 8]);
+                let mut form = sample(port, image.len(), 0, 1);
+                form.bytes.fill(0);
+                let mut sender = SenderRoom::ZERO;
+                sender.put(&form);
+                let library = &mut self.both.library;
+                let lent = (&mut sender, SENDER);
+                let number = library.tell(lent, &mut image, port, 0x001, echo, &mut verdict);
+                if (number, verdict[VERDICT]) != (0, 2) || sender != SenderRoom::ZERO {
+                    let (way, length) = (library.way, echo.len());
+                    let (bytes, numbers) = sender.all();
+                    return Err(format!(
+                        "{way}, port {port}, {length} bytes 00 for {count}\n\
+                         returned {number}, verdict {}, sender {bytes:X?} {numbers:X?}\n",
+                        verdict[VERDICT]
+                    ));
+                }
+                self.both.compared(1);
             }
-            self.both.compared(1);
         }
         Ok(())
     }
 
     fn random_begin(&mut self) -> Result<(), String> {
         let begin = self.maker.begin();
-        self.both.set(&[]);
+        self.both.clear();
         self.both.begin(&begin).map(|_| ())
     }
 
     /// Asks and tells, from a load that is begun on.
     fn random_run(&mut self) -> Result<(), String> {
         let begin = self.maker.good_begin(24);
-        self.both.set(&[]);
+        self.both.clear();
         self.both.begin(&begin)?;
         let mut going = Going {
             image: begin.image,
-            item: [0; ITEM],
-            before: [0; ITEM],
+            item: ItemForm::ZERO,
+            before: ItemForm::ZERO,
         };
         // How often something else comes than what goes on.
         let seldom = (self.maker.random).pick(&[1_000, 1_000, 64, 24, 12, 6, 3, 2, 1]);
@@ -273,14 +282,14 @@ impl Run<'_> {
 
     /// What goes on with the load: the next item, or its echo.
     fn step(&mut self, going: &mut Going) -> Result<(), String> {
-        if self.both.numbers()[SENDER_OUT] == 0 {
+        if self.both.number(SENDER_OUT) == 0 {
             return self.ask(going);
         }
         self.tell(going, &Told::echo_of(&going.item), "right")
     }
 
     fn ask(&mut self, going: &mut Going) -> Result<(), String> {
-        let again = self.both.numbers()[SENDER_OUT] != 0;
+        let again = self.both.number(SENDER_OUT) != 0;
         if let Some(item) = self.both.ask(going.image)? {
             if !again {
                 going.before = going.item;
@@ -299,7 +308,7 @@ impl Run<'_> {
     /// another image, or lengths and ports that are none.
     fn other_step(&mut self, going: &mut Going) -> Result<(), String> {
         let echo = Told::echo_of(&going.item);
-        let out = self.both.numbers()[SENDER_OUT] != 0;
+        let out = self.both.number(SENDER_OUT) != 0;
         match self.maker.random.below(14) {
             0 | 1 => self.ask(going),
             2 => self.tell(going, &echo, if out { "right" } else { "again" }),
@@ -318,13 +327,14 @@ impl Run<'_> {
             10 => self.begin_again(going),
             11 => self.swapped(going, &echo),
             12 => {
-                let (sender_len, item_len) = (self.maker.sender_len(2), self.maker.item_len(2));
+                let sender_len = self.maker.length(SENDER, 2);
+                let item_len = self.maker.length(ITEM, 2);
                 let asked = self.both.ask_with(going.image, sender_len, item_len);
                 asked.map(|item| going.item = item.unwrap_or(going.item))
             }
             _ => {
                 let port = self.maker.no_port();
-                let sender_len = self.maker.sender_len(4);
+                let sender_len = self.maker.length(SENDER, 4);
                 let told = Told { port, ..echo };
                 let told = self.both.tell_with(going.image, sender_len, &told);
                 told.map(|_| ())
@@ -358,13 +368,14 @@ impl Run<'_> {
         Ok(())
     }
 
-    /// A sender of random numbers: asked, told from the same numbers, and on from there.
+    /// A random sender: asked, told from the same one, and on from there.
     fn random_sender(&mut self) -> Result<(), String> {
-        let (numbers, image) = self.maker.sender();
-        let (sender_len, item_len) = (self.maker.sender_len(24), self.maker.item_len(24));
-        self.both.set(&numbers);
+        let (sender, image) = self.maker.sender();
+        let sender_len = self.maker.length(SENDER, 24);
+        let item_len = self.maker.length(ITEM, 24);
+        self.both.set(&sender);
         let item = self.both.ask_with(image, sender_len, item_len)?;
-        let echo = Told::echo_of(&item.unwrap_or_default());
+        let echo = Told::echo_of(&item.unwrap_or(ItemForm::ZERO));
         let (mut told, how) = match self.maker.random.chance(3) {
             true => self.maker.bent_told(echo.clone()),
             false => (echo.clone(), "right"),
@@ -372,16 +383,16 @@ impl Run<'_> {
         if self.maker.random.chance(24) {
             told.port = self.maker.no_port();
         }
-        self.both.set(&numbers);
+        self.both.set(&sender);
         self.both.count("told", how);
-        let sender_len = self.maker.sender_len(24);
+        let sender_len = self.maker.length(SENDER, 24);
         self.both.tell_with(image, sender_len, &told)?;
 
-        self.both.set(&numbers);
+        self.both.set(&sender);
         let mut going = Going {
             image,
-            item: [0; ITEM],
-            before: [0; ITEM],
+            item: ItemForm::ZERO,
+            before: ItemForm::ZERO,
         };
         for _ in 0..self.maker.random.below(6) {
             self.step(&mut going)?;
@@ -406,7 +417,7 @@ impl Run<'_> {
     }
 
     /// A whole load. By the random ones one head in a few does not take the password.
-    fn load(&mut self, port: u8, length: usize) -> Result<(), String> {
+    fn load(&mut self, port: u32, length: usize) -> Result<(), String> {
         let mut selected = self.legal();
         let mut password = selected;
         let passes = !self.both.at_random || !self.maker.random.chance(8);
@@ -455,7 +466,7 @@ fn others(echo: &Told) -> Vec<Told> {
             });
         }
     }
-    for port in 0..=255 {
+    for port in (0..=255).chain(WIDE) {
         others.push(Told {
             port,
             ..echo.clone()

@@ -1,12 +1,13 @@
-//! Random inputs of a sender: beginnings, echoes, and the numbers of senders.
+//! Random inputs of a sender: beginnings, echoes, and senders.
 
 use crate::c_numbers::{
-    ITEM, SENDER, SENDER_GOING, SENDER_IMAGE_LENGTH, SENDER_OUT, SENDER_PASSWORD, SENDER_PLACE,
-    SENDER_PORT, SENDER_START, SENDER_VLE,
+    SENDER_GOING, SENDER_IMAGE_LENGTH, SENDER_OUT, SENDER_PLACE, SENDER_PORT, SENDER_START,
+    SENDER_VLE,
 };
+use crate::forms::{Length, SenderForm, SENDER};
 use crate::generators::{Maker, END};
 use crate::harness::{BASE, SRAM};
-use crate::sender_harness::{Begin, Told, ITEM_MAX, SENDER_MAX};
+use crate::sender_harness::{Begin, Told};
 use crate::sender_images::{Image, MOST, PLACES};
 use std::array;
 
@@ -24,7 +25,11 @@ pub const LENGTHS: [usize; 19] = [
 ];
 
 /// Numbers that are no port, and other numbers for flags.
-const NO_PORTS: [u8; 6] = [2, 3, 0x10, 0x80, 0x81, 0xFF];
+#[rustfmt::skip]
+const NO_PORTS: [u32; 14] = [
+    2, 3, 0x10, 0x80, 0x81, 0xFF, 0x100, 0x101, 0x102, 0x1_0000, 0x1_0001, 1 << 31,
+    (1 << 31) + 1, !0,
+];
 const FLAGS: [u32; 8] = [0, 1, 2, 3, 0x100, 0x1_0000, 1 << 31, !0];
 
 /// Numbers that are put where another belongs.
@@ -109,14 +114,14 @@ impl Maker {
         Begin {
             port: match self.random.below(12) {
                 0 => self.random.pick(&NO_PORTS),
-                1 => self.random.byte(),
+                1 => self.random.byte().into(),
                 _ => self.random.pick(&[0, 1]),
             },
             start: self.start(image.length),
             vle: self.vle(),
             password: self.bytes(password_len),
             image,
-            sender_len: self.sender_len(12),
+            sender: self.length(SENDER, 12),
         }
     }
 
@@ -129,28 +134,19 @@ impl Maker {
             vle: self.vle(),
             password: self.bytes(8),
             image: self.image_of(length),
-            sender_len: SENDER,
+            sender: SENDER,
         }
     }
 
-    /// The length of a sender, which is wrong about once in `seldom` times.
-    pub fn sender_len(&mut self, seldom: usize) -> usize {
+    /// Lengths that are wrong about once in `seldom` times.
+    pub fn length(&mut self, right: Length, seldom: usize) -> Length {
         match self.random.chance(seldom) {
-            true if self.random.chance(2) => self.random.below(SENDER_MAX + 1),
-            true => self.random.pick(&[0, 1, SENDER - 1, SENDER + 1]),
-            false => SENDER,
+            true => self.wrong(right),
+            false => right,
         }
     }
 
-    pub fn item_len(&mut self, seldom: usize) -> usize {
-        match self.random.chance(seldom) {
-            true if self.random.chance(2) => self.random.below(ITEM_MAX + 1),
-            true => self.random.pick(&[0, 1, ITEM - 1, ITEM + 1]),
-            false => ITEM,
-        }
-    }
-
-    pub fn no_port(&mut self) -> u8 {
+    pub fn no_port(&mut self) -> u32 {
         self.random.pick(&NO_PORTS)
     }
 
@@ -198,27 +194,25 @@ impl Maker {
         }
     }
 
-    /// The numbers of a sender and the image that it is handed with: a sound load, or bent
-    /// about the edges of soundness, or any numbers.
-    pub fn sender(&mut self) -> ([u32; SENDER], Image) {
+    /// A sender and the image that it is handed with: a sound load, or bent about the edges of
+    /// soundness, or of any numbers.
+    pub fn sender(&mut self) -> (SenderForm, Image) {
+        let bytes = self.octets();
         if self.random.chance(16) {
             let numbers = array::from_fn(|_| match self.random.below(3) {
                 0 => self.random.number() as u32,
                 _ => self.random.pick(&NUMBERS),
             });
             let length = numbers[SENDER_IMAGE_LENGTH] as usize;
-            return (numbers, self.image_of(length));
+            return (SenderForm { bytes, numbers }, self.image_of(length));
         }
         let length = match self.random.below(16) {
             0 => self.random.pick(&[1, 7, 8, 9, 65_535, 65_536]),
             1 => 1 + self.random.below(SRAM),
             _ => 1 + self.random.below(40),
         };
-        let mut numbers = [0; SENDER];
+        let mut numbers = SenderForm::ZERO.numbers;
         numbers[SENDER_GOING] = 1;
-        for number in &mut numbers[SENDER_PASSWORD..SENDER_PORT] {
-            *number = self.random.byte().into();
-        }
         let port = self.random.below(2) as u32;
         numbers[SENDER_PORT] = port;
         numbers[SENDER_START] = self.fitting(length);
@@ -230,7 +224,7 @@ impl Maker {
         for _ in 0..self.random.pick(&[0, 0, 1, 1, 1, 2, 3]) {
             self.bend_sender(&mut numbers, &mut image);
         }
-        (numbers, image)
+        (SenderForm { bytes, numbers }, image)
     }
 
     /// A place at which an item begins: any, or the first or last of a part.
@@ -249,22 +243,23 @@ impl Maker {
     }
 
     /// One number of a sender made another, or the image.
-    fn bend_sender(&mut self, numbers: &mut [u32; SENDER], image: &mut Image) {
+    fn bend_sender(&mut self, numbers: &mut [u32; SENDER.numbers], image: &mut Image) {
         let random = &mut self.random;
         let length = numbers[SENDER_IMAGE_LENGTH];
         let end = length.wrapping_add(16);
         let near = [end, end.wrapping_sub(1), end.wrapping_add(1), end & !7];
-        let byte = SENDER_PASSWORD + random.below(8);
+        let any = random.below(SENDER.numbers);
         let place = numbers[SENDER_PLACE];
         #[rustfmt::skip]
         let (at, number) = match random.below(16) {
-            0 => (random.below(SENDER), random.number() as u32),
-            1 => (random.below(SENDER), random.pick(&NUMBERS)),
+            0 => (any, random.number() as u32),
+            1 => (any, random.pick(&NUMBERS)),
             2 => (SENDER_GOING, random.pick(&FLAGS)),
             3 => (SENDER_VLE, random.pick(&FLAGS)),
             4 => (SENDER_OUT, random.pick(&FLAGS)),
             5 => (SENDER_PORT, random.pick(&FLAGS)),
-            6 => (byte, numbers[byte] | 0x100 << random.below(24)),
+            // The same in 8 bits.
+            6 => (any, numbers[any] | 0x100 << random.below(24)),
             7 | 8 => (SENDER_START, random.pick(&STARTS)),
             9 => (SENDER_PLACE, random.pick(&near)),
             10 => (SENDER_PLACE, random.pick(&NUMBERS)),

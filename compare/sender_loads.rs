@@ -2,12 +2,16 @@
 //! and document 002's exchange from the library's sender.
 
 use crate::c_numbers::{
-    answer_name, entered_of, item_name, item_numbers, item_of, row, sender_name, sender_numbers,
-    session_name, verdict_number, Head, Row, ANSWER, ENTERED, ITEM, ITEM_PORT, PORTS, REFUSAL,
-    SENDER, SESSION, STAGE, START, VLE,
+    answer_form, entered_of, item_form, item_of, sender_form, verdict_number, Head, ANSWER_NAMES,
+    ENTERED, HELD, ITEM_NAMES, ITEM_PORT, NUMBER, PORTS, REFUSAL, SENDER_NAMES, SESSION_NAMES,
+    STAGE, START, VLE,
 };
-use crate::differences::{hex, number_lines};
-use crate::foreign;
+use crate::differences::{form_lines, hex, line};
+use crate::foreign::{Library, VERDICT};
+use crate::forms::{
+    both as lengths, AnswerForm, AnswerRoom, ItemForm, ItemRoom, SenderForm, SenderRoom,
+    SessionForm, SessionRoom, ANSWER, ITEM, SENDER, SESSION,
+};
 use crate::harness::{BASE, SRAM};
 use crate::random::Random;
 use crate::sender_harness::{Begin, Senders, Told};
@@ -21,38 +25,58 @@ pub const LOADS: [[&str; 2]; 2] = [["CAN VLE 0", "CAN VLE 1"], ["serial VLE 0", 
 const DONE: u8 = 1;
 const ABANDONED: u8 = 2;
 
-/// What one item makes of a pair: the numbers of asking, of the head and of telling.
-const ASKED: usize = 0;
-const ASKED_ITEM: usize = 1;
-const ASKED_SENDER: usize = ASKED_ITEM + ITEM;
-const ANSWERED: usize = ASKED_SENDER + SENDER;
-const ANSWERED_SESSION: usize = ANSWERED + ANSWER;
-const TOLD: usize = ANSWERED_SESSION + SESSION;
-const TOLD_VERDICT: usize = TOLD + 1;
-const TOLD_SENDER: usize = TOLD_VERDICT + 1;
+/// What one item makes of a pair: of asking, of the head and of telling.
+#[derive(PartialEq)]
+struct Turn {
+    asked: u8,
+    item: ItemForm,
+    sender_asked: SenderForm,
+    answer: AnswerForm,
+    session: SessionForm,
+    told: u8,
+    verdict: u8,
+    sender_told: SenderForm,
+}
 
-fn turn_name(index: usize) -> String {
-    match index {
-        ASKED => "asked".into(),
-        ASKED_ITEM..ASKED_SENDER => item_name(index - ASKED_ITEM),
-        ASKED_SENDER..ANSWERED => format!("asked, {}", sender_name(index - ASKED_SENDER)),
-        ANSWERED..ANSWERED_SESSION => format!("head, {}", answer_name(index - ANSWERED)),
-        ANSWERED_SESSION..TOLD => format!("head, {}", session_name(index - ANSWERED_SESSION)),
-        TOLD => "told".into(),
-        TOLD_VERDICT => "verdict".into(),
-        _ => format!("told, {}", sender_name(index - TOLD_SENDER)),
+impl Turn {
+    /// What differs from another turn.
+    fn lines(&self, other: &Turn) -> String {
+        let number = |name, [one, other]: [u8; 2]| match one == other {
+            true => String::new(),
+            false => line(name, &one.to_string(), &other.to_string()),
+        };
+        let none = lengths(0, 0);
+        let sender = |name, one: &SenderForm, other: &SenderForm| {
+            let lines = form_lines(one.all(), other.all(), none, SENDER_NAMES);
+            if lines.is_empty() {
+                lines
+            } else {
+                format!("{name}\n{lines}")
+            }
+        };
+        [
+            number("asked", [self.asked, other.asked]),
+            form_lines(self.item.all(), other.item.all(), none, ITEM_NAMES),
+            sender("asked", &self.sender_asked, &other.sender_asked),
+            form_lines(self.answer.all(), other.answer.all(), none, ANSWER_NAMES),
+            form_lines(self.session.all(), other.session.all(), none, SESSION_NAMES),
+            number("told", [self.told, other.told]),
+            number("verdict", [self.verdict, other.verdict]),
+            sender("told", &self.sender_told, &other.sender_told),
+        ]
+        .concat()
     }
 }
 
 /// A load that begins, and the fresh head that it is sent to.
 pub struct Load {
-    pub port: u8,
+    pub port: u32,
     pub start: u32,
     pub vle: u8,
     pub password: [u8; 8],
     pub image: Image,
     /// The head's mode and the password that it has selected.
-    pub mode: u8,
+    pub mode: u32,
     pub selected: [u8; 8],
     /// Whether the head takes the password.
     pub passes: bool,
@@ -60,7 +84,7 @@ pub struct Load {
 
 impl fmt::Display for Load {
     fn fmt(&self, f: &mut fmt::Formatter) -> fmt::Result {
-        let port = ["CAN", "serial"][usize::from(self.port)];
+        let port = ["CAN", "serial"][self.port as usize];
         let selected = hex(&self.selected);
         let (start, vle, mode) = (self.start, self.vle, self.mode);
         write!(f, "a load by {port}, start {start:#010x}, VLE {vle}, ")?;
@@ -71,63 +95,71 @@ impl fmt::Display for Load {
 
 /// The library's sender and head, and the reference's.
 enum Truck {
-    Ours([u32; SENDER]),
+    Ours(SenderRoom),
     Theirs(Sender),
 }
 
 enum Facing {
-    Ours([u32; SESSION]),
+    Ours(SessionRoom),
     Theirs(Head),
 }
 
 impl Truck {
-    fn ours(load: &Load, image: &mut [u8]) -> (u8, Self) {
-        let (mut numbers, mut password) = ([!0; SENDER], load.password);
-        let number = foreign::begin(
+    fn ours(load: &Load, library: &mut Library, image: &mut [u8]) -> (u8, Self) {
+        let (mut sender, mut password) = (SenderRoom::ONES, load.password);
+        let number = library.begin(
             load.port,
             load.start,
             load.vle,
             &mut password,
             image,
-            &mut numbers,
+            (&mut sender, SENDER),
         );
-        (number, Truck::Ours(numbers))
+        (number, Truck::Ours(sender))
     }
 
     fn theirs(load: &Load) -> (u8, Self) {
-        let (port, vle) = (PORTS[usize::from(load.port)], load.vle != 0);
+        let (port, vle) = (PORTS[load.port as usize], load.vle != 0);
         let (number, sender) =
             Sender::begin(port, load.start, vle, load.password, load.image.length);
         (number, Truck::Theirs(sender))
     }
 
-    fn numbers(&self) -> [u32; SENDER] {
+    fn form(&self) -> SenderForm {
         match self {
-            Truck::Ours(numbers) => *numbers,
-            Truck::Theirs(sender) => sender_numbers(sender),
+            Truck::Ours(sender) => sender.form(),
+            Truck::Theirs(sender) => sender_form(sender),
         }
     }
 
-    fn ask(&mut self, image: &mut [u8]) -> (u8, [u32; ITEM]) {
-        let mut item = [0; ITEM];
+    fn ask(&mut self, library: &mut Library, image: &mut [u8]) -> (u8, ItemForm) {
         match self {
-            Truck::Ours(numbers) => (foreign::ask(numbers, image, &mut item), item),
+            Truck::Ours(sender) => {
+                let mut item = ItemRoom::ZERO;
+                let number = library.ask((sender, SENDER), image, (&mut item, ITEM));
+                (number, item.form())
+            }
             Truck::Theirs(sender) => {
-                let (number, answer) = sender.ask(image);
-                (number, answer.map_or(item, |item| item_numbers(&item)))
+                let (number, item) = sender.ask(image);
+                (number, item.map_or(ItemForm::ZERO, |item| item_form(&item)))
             }
         }
     }
 
     /// Answers the number and the verdict, which is abandoned where there is none.
-    fn tell(&mut self, image: &mut [u8], told: &Told) -> (u8, u8) {
+    fn tell(&mut self, library: &mut Library, image: &mut [u8], told: &Told) -> (u8, u8) {
         match self {
-            Truck::Ours(numbers) => {
+            Truck::Ours(sender) => {
                 let (mut bytes, mut verdict) = (told.bytes.clone(), [ABANDONED; 8]);
-                let (port, identifier) = (told.port, told.identifier);
-                let number =
-                    foreign::tell(numbers, image, port, identifier, &mut bytes, &mut verdict);
-                (number, verdict[0])
+                let number = library.tell(
+                    (sender, SENDER),
+                    image,
+                    told.port,
+                    told.identifier,
+                    &mut bytes,
+                    &mut verdict,
+                );
+                (number, verdict[VERDICT])
             }
             Truck::Theirs(sender) => {
                 let (number, verdict) = sender.tell(image, &told.heard().unwrap());
@@ -139,48 +171,53 @@ impl Truck {
 }
 
 impl Facing {
-    fn ours(load: &Load) -> Self {
-        Facing::Ours(our_head(load.mode, &load.selected))
+    fn ours(load: &Load, library: &mut Library) -> Self {
+        Facing::Ours(our_head(library, load.mode, &load.selected))
     }
 
     fn theirs(load: &Load) -> Self {
-        let entered = entered_of(load.mode.into()).unwrap();
+        let entered = entered_of(load.mode).unwrap();
         Facing::Theirs(Head::fresh(entered, load.selected))
     }
 
-    fn numbers(&self) -> [u32; SESSION] {
+    fn form(&self) -> SessionForm {
         match self {
-            Facing::Ours(numbers) => *numbers,
-            Facing::Theirs(head) => head.numbers(),
+            Facing::Ours(session) => session.form(),
+            Facing::Theirs(head) => head.form(),
         }
     }
 
-    fn item(&mut self, sram: &mut [u8], item: &Item) -> Row {
+    fn item(&mut self, library: &mut Library, sram: &mut [u8], item: &Item) -> AnswerForm {
         match self {
-            Facing::Ours(numbers) => our_answer(numbers, sram, item),
-            Facing::Theirs(head) => row(&head.item(sram, item)),
+            Facing::Ours(session) => our_answer(library, session, sram, item),
+            Facing::Theirs(head) => answer_form(&head.item(sram, item)),
         }
     }
 }
 
 /// A fresh session of the library's.
-fn our_head(mode: u8, selected: &[u8; 8]) -> [u32; SESSION] {
-    let mut session = [!0; SESSION];
-    foreign::session(mode, selected, &mut session);
+fn our_head(library: &mut Library, mode: u32, selected: &[u8; 8]) -> SessionRoom {
+    let mut session = SessionRoom::ONES;
+    library.fresh(mode, selected, &mut session, SESSION);
     session
 }
 
-fn our_answer(session: &mut [u32; SESSION], sram: &mut [u8], item: &Item) -> Row {
-    let mut answer = [0; ANSWER];
+fn our_answer(
+    library: &mut Library,
+    session: &mut SessionRoom,
+    sram: &mut [u8],
+    item: &Item,
+) -> AnswerForm {
+    let mut answer = AnswerRoom::ZERO;
+    let (session, lent) = ((session, SESSION), (&mut answer, ANSWER));
     let number = match item {
-        Item::Frame { identifier, data } => {
-            foreign::frame(session, sram, *identifier, data, &mut answer)
-        }
+        Item::Frame { identifier, data } => library.frame(session, sram, *identifier, data, lent),
         Item::Byte { value, faulty } => {
-            foreign::byte(session, sram, *value, u8::from(*faulty), &mut answer)
+            library.byte(session, sram, *value, u8::from(*faulty), lent)
         }
     };
-    answer[0] = number.into();
+    let mut answer: AnswerForm = answer.form();
+    answer.numbers[NUMBER] = number.into();
     answer
 }
 
@@ -193,43 +230,42 @@ struct Pair {
 
 impl Pair {
     /// One item is asked for, sent, and its echo told.
-    fn turn(&mut self, image: &mut [u8]) -> Vec<u32> {
-        let mut turn = Vec::with_capacity(TOLD_SENDER + SENDER);
-        let (number, item) = self.truck.ask(image);
-        turn.push(number.into());
-        turn.extend(item);
-        turn.extend(self.truck.numbers());
-
-        let row = self.head.item(&mut self.sram, &item_of(&item));
-        turn.extend(row);
-        turn.extend(self.head.numbers());
-
-        let told = Told::answered(item[ITEM_PORT].min(1) as u8, &row);
-        let (number, verdict) = self.truck.tell(image, &told);
-        turn.extend([number, verdict].map(u32::from));
-        turn.extend(self.truck.numbers());
-        turn
+    fn turn(&mut self, library: &mut Library, image: &mut [u8]) -> Turn {
+        let (asked, item) = self.truck.ask(library, image);
+        let sender_asked = self.truck.form();
+        let answer = self.head.item(library, &mut self.sram, &item_of(&item));
+        let told = Told::answered(item.numbers[ITEM_PORT].min(1), &answer);
+        let (told, verdict) = self.truck.tell(library, image, &told);
+        Turn {
+            asked,
+            item,
+            sender_asked,
+            answer,
+            session: self.head.form(),
+            told,
+            verdict,
+            sender_told: self.truck.form(),
+        }
     }
 }
 
 impl Load {
     /// How many items are sent, the verdict on the last, and the head's session after it.
-    fn end(&self) -> (usize, u8, [u32; SESSION]) {
-        let mut session = [0; SESSION];
-        for (number, byte) in session.iter_mut().zip(self.selected) {
-            *number = byte.into();
-        }
-        session[ENTERED] = self.mode.into();
+    fn end(&self) -> (usize, u8, SessionForm) {
+        let mut session = SessionForm::ZERO;
+        session.bytes[..HELD].copy_from_slice(&self.selected);
+        let numbers = &mut session.numbers;
+        numbers[ENTERED] = self.mode;
         let serial = self.port == 1;
         if !self.passes {
             // The password is echoed, the first item of the header is not.
-            session[STAGE] = 4;
-            session[REFUSAL] = 2;
+            numbers[STAGE] = 4;
+            numbers[REFUSAL] = 2;
             return (if serial { 9 } else { 2 }, ABANDONED, session);
         }
-        session[STAGE] = 5;
-        session[START] = self.start & !3;
-        session[VLE] = u32::from(self.vle != 0);
+        numbers[STAGE] = 5;
+        numbers[START] = self.start & !3;
+        numbers[VLE] = u32::from(self.vle != 0);
         let length = self.image.length;
         let items = if serial {
             16 + length
@@ -247,9 +283,9 @@ impl Load {
         let before: Vec<u8> = (0..SRAM / 8)
             .flat_map(|_| random.number().to_le_bytes())
             .collect();
-        let image = both.images.lent(self.image);
-        let compared = self.pairs(image, &before).and_then(|mut pairs| {
-            let items = self.turns(&mut pairs, image)?;
+        let (library, image) = (&mut both.library, both.images.lent(self.image));
+        let compared = self.pairs(library, image, &before).and_then(|mut pairs| {
+            let items = self.turns(&mut pairs, library, image)?;
             self.ended(&pairs, image, before)?;
             Ok(items)
         });
@@ -266,7 +302,7 @@ impl Load {
         both.count(
             "load",
             match (self.passes, self.password == self.selected) {
-                (true, _) => LOADS[usize::from(self.port)][usize::from(self.vle != 0)],
+                (true, _) => LOADS[self.port as usize][usize::from(self.vle != 0)],
                 (false, true) => "illegal",
                 (false, false) => "wrong",
             },
@@ -275,12 +311,17 @@ impl Load {
     }
 
     /// Each sender with each head, all fresh. The others are compared with the first.
-    fn pairs(&self, image: &mut [u8], sram: &[u8]) -> Result<[Pair; 4], String> {
+    fn pairs(
+        &self,
+        library: &mut Library,
+        image: &mut [u8],
+        sram: &[u8],
+    ) -> Result<[Pair; 4], String> {
         let trucks = [
             Truck::theirs(self),
             Truck::theirs(self),
-            Truck::ours(self, image),
-            Truck::ours(self, image),
+            Truck::ours(self, library, image),
+            Truck::ours(self, library, image),
         ];
         let numbers = trucks.each_ref().map(|(number, _)| *number);
         if numbers != [0; 4] {
@@ -295,26 +336,31 @@ impl Load {
         let [a, b, c, d] = trucks;
         Ok([
             pair("theirs to theirs", a, Facing::theirs(self)),
-            pair("theirs to ours", b, Facing::ours(self)),
+            pair("theirs to ours", b, Facing::ours(self, library)),
             pair("ours to theirs", c, Facing::theirs(self)),
-            pair("ours to ours", d, Facing::ours(self)),
+            pair("ours to ours", d, Facing::ours(self, library)),
         ])
     }
 
     /// Turns until the load does not go on. Answers how many.
-    fn turns(&self, pairs: &mut [Pair; 4], image: &mut [u8]) -> Result<u64, String> {
+    fn turns(
+        &self,
+        pairs: &mut [Pair; 4],
+        library: &mut Library,
+        image: &mut [u8],
+    ) -> Result<u64, String> {
         let (items, verdict, _) = self.end();
         for item in 1..=items {
-            let turns = pairs.each_mut().map(|pair| pair.turn(image));
+            let turns = pairs.each_mut().map(|pair| pair.turn(library, image));
             for (pair, turn) in pairs.iter().zip(&turns) {
                 if *turn != turns[0] {
                     let title = title(pair.name, pairs[0].name);
-                    let lines = number_lines(turn, &turns[0], 0, turn_name);
+                    let lines = turn.lines(&turns[0]);
                     return Err(format!("item {item}\n{title}{lines}"));
                 }
             }
-            let due = [0, 0, if item == items { verdict } else { 0 }].map(u32::from);
-            let numbers = [ASKED, TOLD, TOLD_VERDICT].map(|at| turns[0][at]);
+            let due = [0, 0, if item == items { verdict } else { 0 }];
+            let numbers = [turns[0].asked, turns[0].told, turns[0].verdict];
             if numbers != due {
                 return Err(format!(
                     "item {item} of {items}: asked, told, verdict {numbers:?}, {due:?} is due\n"
@@ -333,9 +379,9 @@ impl Load {
         }
         for pair in pairs {
             let name = pair.name;
-            let numbers = pair.head.numbers();
-            if numbers != session {
-                let lines = number_lines(&numbers, &session, SESSION, session_name);
+            let ours = pair.head.form();
+            if ours != session {
+                let lines = form_lines(ours.all(), session.all(), SESSION, SESSION_NAMES);
                 let title = title(name, "due");
                 return Err(format!("the head's session in the end\n{title}{lines}"));
             }
@@ -345,7 +391,7 @@ impl Load {
                     "{name}, SRAM from {at:#x} on: {left:02X}, {right:02X} is due\n"
                 ));
             }
-            if pair.truck.numbers() != [0; SENDER] {
+            if pair.truck.form() != SenderForm::ZERO {
                 return Err(format!("{name}: a load is going\n"));
             }
         }
@@ -368,39 +414,44 @@ pub fn exchange(exchange: &Exchange, both: &mut Senders) -> Result<(), String> {
 fn compare_exchange(exchange: &Exchange, both: &mut Senders) -> Result<(), String> {
     let image = both.images.of(&exchange.loaded);
     let begin = begin_of(exchange, image);
-    let items = [642, 5_136][usize::from(begin.port)];
+    let items = [642, 5_136][begin.port as usize];
     if exchange.turns.len() != items {
         return Err(format!("{items} items are due\n"));
     }
-    both.set(&[]);
+    both.clear();
     both.begin(&begin)?;
     let selected = begin.password[..].try_into().unwrap();
-    let (mut session, mut sram) = (our_head(2, &selected), vec![0; SRAM]);
+    let (mut session, mut sram) = (our_head(&mut both.library, 2, &selected), vec![0; SRAM]);
+    both.compared(1);
     for (index, (item, printed)) in exchange.turns.iter().enumerate() {
-        let asked = both.ask(image)?.unwrap_or([!0; ITEM]);
-        let row = our_answer(&mut session, &mut sram, &item_of(&asked));
-        let told = Told::answered(begin.port, &row);
+        let asked = both.ask(image)?.unwrap_or(ItemForm::ZERO);
+        let sent = item_of(&asked);
+        let answer = our_answer(&mut both.library, &mut session, &mut sram, &sent);
+        let told = Told::answered(begin.port, &answer);
         let verdict = both.tell(image, &told)?;
         both.compared(1);
 
         let due = if index + 1 == items { DONE } else { 0 };
-        let right = asked == item_numbers(item) && row == *printed && verdict == Some(due);
+        let right = asked == item_form(item) && answer == *printed && verdict == Some(due);
         if !right {
             let mut text = format!("item {} of {items}, verdict {verdict:?}\n", index + 1);
             text += &title("ours", "printed");
-            text += &number_lines(&asked, &item_numbers(item), ITEM, item_name);
-            return Err(text + &number_lines(&row, printed, ANSWER, answer_name));
+            text += &form_lines(asked.all(), item_form(item).all(), ITEM, ITEM_NAMES);
+            return Err(text + &form_lines(answer.all(), printed.all(), ANSWER, ANSWER_NAMES));
         }
     }
+    let session: SessionForm = session.form();
     if session != exchange.after || !sram.starts_with(&exchange.loaded) || both.going() {
-        return Err(format!("the head's session in the end: {session:X?}\n"));
+        let lines = form_lines(session.all(), exchange.after.all(), SESSION, SESSION_NAMES);
+        let title = title("ours", "printed");
+        return Err(format!("the head's session in the end\n{title}{lines}"));
     }
     Ok(())
 }
 
 /// The beginning that sends the password and the header of an exchange.
 fn begin_of(exchange: &Exchange, image: Image) -> Begin {
-    let (port, first): (u8, Vec<u8>) = match &exchange.turns[..2] {
+    let (port, first): (u32, Vec<u8>) = match &exchange.turns[..2] {
         [(Item::Frame { data, .. }, _), (Item::Frame { data: header, .. }, _)] => {
             (0, [&data[..], header].concat())
         }
@@ -419,6 +470,6 @@ fn begin_of(exchange: &Exchange, image: Image) -> Begin {
         vle: first[12] >> 7,
         password: first[..8].to_vec(),
         image,
-        sender_len: SENDER,
+        sender: SENDER,
     }
 }

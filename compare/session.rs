@@ -1,10 +1,12 @@
 //! The serial session: systematic inputs, random lists of items and random sessions.
 
 use crate::c_numbers::{
-    ANSWER, COUNT, ENTERED, HELD, NEXT, OWED, PORT, REFUSAL, SESSION, STAGE, START, TABLE, VLE,
+    COUNT, ENTERED, HELD, NEXT, OWED, PORT, REFUSAL, STAGE, START, TABLE, VLE, WIDE,
 };
+use crate::foreign;
+use crate::forms::{both, SessionForm, ANSWER, CUT, SESSION};
 use crate::generators::{clean, faulty, frame, header, load, Maker, END, PUBLIC};
-use crate::harness::{Harness, Lengths, Parts, BASE, RIGHT, ROWS_MAX, SESSION_MAX, SRAM, SRAM_MAX};
+use crate::harness::{Harness, Lengths, Parts, BASE, RIGHT, ROWS_MAX, SRAM, SRAM_MAX};
 use crate::random::Random;
 use crate::session_exchanges;
 use crate::Tally;
@@ -26,6 +28,7 @@ pub fn run(mut random: Random, count: u64, tally: &mut Tally) -> Result<(), Stri
     run.lengths()?;
     run.soundness()?;
     run.list_forms()?;
+    run.long()?;
     run.rows()?;
 
     run.harness.at_random = true;
@@ -41,30 +44,22 @@ pub fn run(mut random: Random, count: u64, tally: &mut Tally) -> Result<(), Stri
     for exchange in session_exchanges::document_002() {
         exchange.run(&mut run.harness)?;
     }
-    run.large_loads()
+    run.large_loads()?;
+    run.harness.count_calls();
+    Ok(())
 }
 
 /// A sound session of each stage and port, data stages also with few bytes owed. All were
 /// entered directly.
-fn samples() -> Vec<[u32; SESSION]> {
+fn samples() -> Vec<SessionForm> {
     let sample = |stage, port, count, [start, vle, next, owed, refusal]: [u32; 5]| {
-        let mut numbers = [0; SESSION];
-        for (number, byte) in numbers.iter_mut().zip(PUBLIC) {
-            *number = byte.into();
+        let (mut bytes, held) = ([0; SESSION.bytes], count as usize);
+        bytes[..HELD].copy_from_slice(&PUBLIC);
+        bytes[HELD..][..held].copy_from_slice(&PUBLIC[..held]);
+        SessionForm {
+            bytes,
+            numbers: [stage, port, count, start, vle, next, owed, refusal, 2],
         }
-        numbers[STAGE] = stage;
-        numbers[PORT] = port;
-        numbers[COUNT] = count;
-        for (at, number) in (HELD..).zip([0xFE, 0xED, 0xFA, 0xCE, 0xCA, 0xFE, 0xBE]) {
-            numbers[at] = if at < HELD + count as usize {
-                number
-            } else {
-                0
-            };
-        }
-        numbers[START..ENTERED].copy_from_slice(&[start, vle, next, owed, refusal]);
-        numbers[ENTERED] = 2;
-        numbers
     };
     let mut samples = vec![
         sample(0, 0, 0, [0; 5]),
@@ -97,20 +92,21 @@ struct Run<'a> {
 }
 
 impl Run<'_> {
-    fn call(&mut self, numbers: &[u32], item: &Item, lengths: Lengths) -> Result<(), String> {
+    fn call(&mut self, session: &SessionForm, item: &Item, lengths: Lengths) -> Result<(), String> {
         self.harness.fill();
-        self.harness.set(numbers);
+        self.harness.set(session);
         self.harness.call(item, lengths).map(|_| ())
     }
 
-    /// Every mode, with password and output lengths about the right ones.
+    /// Every mode of 8 bits and wider ones, with password and output lengths about the right
+    /// ones.
     fn fresh_sessions(&mut self) -> Result<(), String> {
-        for mode in 0..=255 {
+        for mode in (0..=255).chain(WIDE) {
             for password_len in 0..=9 {
                 self.harness.fill();
                 let password = self.maker.bytes(password_len);
-                for session_len in [0, 8].into_iter().chain(20..=28) {
-                    self.harness.fresh(mode, &password, session_len)?;
+                for length in SESSION.many() {
+                    self.harness.fresh(mode, &password, length)?;
                 }
             }
         }
@@ -127,20 +123,20 @@ impl Run<'_> {
     fn frames(&mut self) -> Result<(), String> {
         let counts = || (0..=17).chain(255..=265).chain(65_536..=65_544);
         let beyond = [0x800, 0x811, 0x812, 0x813, 0x1_0011, 0x8000_0013, !0];
-        for numbers in samples() {
+        for session in samples() {
             for identifier in (0..0x800).chain(beyond) {
                 let count = self.maker.random.pick(&[1, 3, 8, 8]);
                 let data = self.maker.bytes(count);
-                self.call(&numbers, &frame(identifier, &data), RIGHT)?;
+                self.call(&session, &frame(identifier, &data), RIGHT)?;
             }
             for identifier in [0x011, 0x012, 0x013] {
                 for count in counts() {
                     let data = self.maker.bytes(count);
-                    self.call(&numbers, &frame(identifier, &data), RIGHT)?;
+                    self.call(&session, &frame(identifier, &data), RIGHT)?;
                 }
-                self.call(&numbers, &frame(identifier, &PUBLIC), RIGHT)?;
+                self.call(&session, &frame(identifier, &PUBLIC), RIGHT)?;
                 let header = header(END - 3, 4);
-                self.call(&numbers, &frame(identifier, &header), RIGHT)?;
+                self.call(&session, &frame(identifier, &header), RIGHT)?;
             }
         }
         Ok(())
@@ -148,17 +144,18 @@ impl Run<'_> {
 
     /// In each stage every byte, clean and faulty.
     fn bytes(&mut self) -> Result<(), String> {
-        for numbers in samples() {
+        for session in samples() {
             for byte in 0..=255 {
-                self.call(&numbers, &clean(byte), RIGHT)?;
-                self.call(&numbers, &faulty(byte), RIGHT)?;
+                self.call(&session, &clean(byte), RIGHT)?;
+                self.call(&session, &faulty(byte), RIGHT)?;
             }
         }
         Ok(())
     }
 
-    /// In each stage the lengths of session, SRAM and answer, each right and wrong, with
-    /// items and lists that would be answered and that would not: 7, 8, 6, 9 in order.
+    /// In each stage the lengths of SRAM and of both lists of session and answer, each right
+    /// and wrong, with items and lists that would be answered and that would not: 7, 8, 6, 9 in
+    /// order.
     fn lengths(&mut self) -> Result<(), String> {
         let items = [
             frame(0x011, &PUBLIC),
@@ -169,23 +166,29 @@ impl Run<'_> {
             clean(0xFE),
             faulty(0xFE),
         ];
-        for numbers in samples() {
+        for sample in samples() {
             for sram in [0, 1, SRAM - 1, SRAM, SRAM + 1, SRAM_MAX] {
-                for session in [0, 8, SESSION - 1, SESSION, SESSION + 1, SESSION_MAX] {
-                    for answer in [0, 1, ANSWER - 1, ANSWER, ANSWER + 1] {
+                for session in SESSION.many() {
+                    self.harness.fill();
+                    let answers = match session {
+                        SESSION => ANSWER.many(),
+                        _ => ANSWER.few().to_vec(),
+                    };
+                    for answer in answers {
                         let lengths = Lengths {
                             session,
                             sram,
                             answer,
                         };
                         for item in &items {
-                            self.call(&numbers, item, lengths)?;
+                            self.harness.set(&sample);
+                            self.harness.call(item, lengths)?;
                         }
                     }
                     let lengths = Lengths {
                         session,
                         sram,
-                        answer: 0,
+                        answer: both(0, 0),
                     };
                     let mut parts = Parts::of(&items, &mut self.maker.random);
                     self.harness.refused_list(&parts, lengths)?;
@@ -198,33 +201,37 @@ impl Run<'_> {
     }
 
     /// Each number of a session at its edges: the stages with every count and port, each
-    /// other number in every stage, the load, and bytes above 255.
+    /// other number in every stage, and the load; and other bytes, any of which a session may
+    /// have.
     fn soundness(&mut self) -> Result<(), String> {
         let counts = || (0..=9).chain([0xFF, 0x100, 0x101]);
-        for numbers in samples() {
+        for sample in samples() {
             for count in counts() {
                 for port in 0..=2 {
                     for stage in 0..=6 {
-                        let mut numbers = numbers;
-                        numbers[STAGE] = stage;
-                        numbers[PORT] = port;
-                        numbers[COUNT] = count;
-                        self.both_ports(&numbers)?;
+                        let mut session = sample;
+                        session.numbers[STAGE] = stage;
+                        session.numbers[PORT] = port;
+                        session.numbers[COUNT] = count;
+                        self.both_ports(&session)?;
                     }
                 }
             }
             for at in [STAGE, PORT, COUNT, START, VLE, NEXT, OWED, REFUSAL, ENTERED] {
-                for number in [0, 1, 2, 3, 4, 5, 6, 12, 0x100, 0x101, 0x102, BASE, END, !0] {
-                    let mut numbers = numbers;
-                    numbers[at] = number;
-                    self.both_ports(&numbers)?;
+                let numbers = [0, 1, 2, 3, 4, 5, 6, 12, 0x102, BASE, END, !0];
+                // The last ones are the same in 8 and in 16 bits.
+                let cut = [0x100, 0x1_0000, 1 << 31].map(|bit| sample.numbers[at] ^ bit);
+                for number in numbers.into_iter().chain(cut) {
+                    let mut session = sample;
+                    session.numbers[at] = number;
+                    self.both_ports(&session)?;
                 }
             }
-            for at in (0..STAGE).chain(HELD..START) {
-                for number in [0, 0xFF, 0x100, 0x100 + numbers[at], !0] {
-                    let mut numbers = numbers;
-                    numbers[at] = number;
-                    self.both_ports(&numbers)?;
+            for at in 0..SESSION.bytes {
+                for byte in [0, 1, 0x7F, 0xFF, !sample.bytes[at]] {
+                    let mut session = sample;
+                    session.bytes[at] = byte;
+                    self.both_ports(&session)?;
                 }
             }
         }
@@ -247,20 +254,20 @@ impl Run<'_> {
             for next in addresses {
                 let to_end = END.wrapping_sub(next);
                 for owed in [0, 1, to_end, to_end.wrapping_add(1), !next, 1 << 31, !0] {
-                    let mut numbers = load;
-                    numbers[START] = start;
-                    numbers[NEXT] = next;
-                    numbers[OWED] = owed;
-                    self.both_ports(&numbers)?;
+                    let mut session = load;
+                    session.numbers[START] = start;
+                    session.numbers[NEXT] = next;
+                    session.numbers[OWED] = owed;
+                    self.both_ports(&session)?;
                 }
             }
         }
         Ok(())
     }
 
-    fn both_ports(&mut self, numbers: &[u32]) -> Result<(), String> {
-        self.call(numbers, &frame(0x013, &[0xA5]), RIGHT)?;
-        self.call(numbers, &clean(0xA5), RIGHT)
+    fn both_ports(&mut self, session: &SessionForm) -> Result<(), String> {
+        self.call(session, &frame(0x013, &[0xA5]), RIGHT)?;
+        self.call(session, &clean(0xA5), RIGHT)
     }
 
     /// Lists whose parts do not fit: each kind, count and length about the right ones.
@@ -273,9 +280,9 @@ impl Run<'_> {
             frame(0x800, &[0; 9]),
             clean(0xED),
         ];
-        for numbers in samples() {
+        for session in samples() {
             self.harness.fill();
-            self.harness.set(&numbers);
+            self.harness.set(&session);
             self.harness.run(&[])?;
             self.harness.run(&items)?;
             let right = Parts::of(&items, &mut self.maker.random);
@@ -296,10 +303,25 @@ impl Run<'_> {
                     refused.push(parts);
                 }
             }
-            for answers in 0..=right.answers + ANSWER + 1 {
+            // The echoes alone, the answers alone, and both, also as of another number of items.
+            for echoes in 0..=right.answers.bytes + ANSWER.bytes + 1 {
                 let mut parts = right.clone();
-                parts.answers = answers;
+                parts.answers.bytes = echoes;
                 refused.push(parts);
+            }
+            for answers in 0..=right.answers.numbers + ANSWER.numbers + 1 {
+                let mut parts = right.clone();
+                parts.answers.numbers = answers;
+                refused.push(parts);
+            }
+            for count in 0..=2 * items.len() {
+                for more in [0, 1] {
+                    let mut parts = right.clone();
+                    parts.answers = both(ANSWER.bytes * count + more, ANSWER.numbers * count);
+                    refused.push(parts.clone());
+                    parts.answers.numbers += more;
+                    refused.push(parts);
+                }
             }
             for length in 0..=2 * items.len() {
                 for which in 1..8 {
@@ -328,18 +350,31 @@ impl Run<'_> {
         Ok(())
     }
 
+    /// Lengths that 32 bits would cut to right ones, often enough for flat and typed calls.
+    fn long(&mut self) -> Result<(), String> {
+        let zeros = foreign::zeros(CUT + SRAM);
+        for session in samples() {
+            self.harness.fill();
+            self.harness.set(&session);
+            for _ in 0..8 {
+                self.harness.long(zeros)?;
+            }
+        }
+        Ok(())
+    }
+
     /// The rows in each stage, sound and with 8 bytes held, which is sound in none, by every
     /// way in and with numbers that are none, with VLE 0, 1 and 2.
     fn rows(&mut self) -> Result<(), String> {
         for sample in samples() {
-            for count in [sample[COUNT], 8] {
+            for count in [sample.numbers[COUNT], 8] {
                 for entered in [2, 3, 4].into_iter().chain(NO_ENTRIES) {
                     for vle in 0..=2 {
-                        let mut numbers = sample;
-                        numbers[COUNT] = count;
-                        numbers[ENTERED] = entered;
-                        numbers[VLE] = vle;
-                        self.rows_of(&numbers)?;
+                        let mut session = sample;
+                        session.numbers[COUNT] = count;
+                        session.numbers[ENTERED] = entered;
+                        session.numbers[VLE] = vle;
+                        self.rows_of(&session)?;
                     }
                 }
             }
@@ -348,15 +383,15 @@ impl Run<'_> {
     }
 
     /// Outputs of every length up to ROWS_MAX, and lengths of the session about the right one.
-    fn rows_of(&mut self, numbers: &[u32]) -> Result<(), String> {
+    fn rows_of(&mut self, session: &SessionForm) -> Result<(), String> {
         self.harness.fill();
-        self.harness.set(numbers);
+        self.harness.set(session);
         for rows_len in 0..=ROWS_MAX {
             self.harness.rows(SESSION, rows_len)?;
         }
-        for session_len in [0, SESSION - 1, SESSION + 1, SESSION_MAX] {
+        for length in SESSION.many() {
             for rows_len in [0, TABLE] {
-                self.harness.rows(session_len, rows_len)?;
+                self.harness.rows(length, rows_len)?;
             }
         }
         Ok(())
@@ -381,21 +416,21 @@ impl Run<'_> {
     /// numbers are not drawn by the maker, so that what it makes does not hang on them.
     fn random_session(&mut self) -> Result<(), String> {
         let entered = self.harness.random.pick(&[2, 3, 4]);
-        let mut numbers = self.maker.session(entered);
-        self.session(&numbers)?;
+        let mut session = self.maker.session(entered);
+        self.session(&session)?;
         if self.harness.random.chance(8) {
-            numbers[ENTERED] = self.harness.random.pick(&NO_ENTRIES);
-            self.both_ports(&numbers)?;
+            session.numbers[ENTERED] = self.harness.random.pick(&NO_ENTRIES);
+            self.both_ports(&session)?;
             let parts = Parts::of(&[clean(0xA5)], &mut self.harness.random);
             self.harness.refused_list(&parts, RIGHT)?;
         }
         Ok(())
     }
 
-    /// A session of these numbers. If it is sound, items are run on it.
-    fn session(&mut self, numbers: &[u32]) -> Result<(), String> {
+    /// A session. If it is sound, items are run on it.
+    fn session(&mut self, session: &SessionForm) -> Result<(), String> {
         self.harness.fill();
-        self.harness.set(numbers);
+        self.harness.set(session);
         self.harness.rows_at_hand()?;
         let Some(head) = self.harness.head() else {
             let items = [self.maker.item(), self.maker.item()];

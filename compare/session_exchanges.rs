@@ -3,17 +3,18 @@
 //! Tables 7 to 14.
 
 use crate::c_numbers::{
-    answer_name, session_name, Row, ANSWER, ECHO, ECHO_IDENTIFIER, ECHO_LENGTH, JUMP, JUMP_VLE,
-    SESSION,
+    Names, ANSWER_NAMES, COUNT, ECHO_IDENTIFIER, ECHO_LENGTH, HELD, JUMP, JUMP_VLE, NUMBER,
+    SESSION_NAMES,
 };
-use crate::differences::line;
+use crate::differences::form_lines;
+use crate::forms::{AnswerForm, Both, Length, SessionForm, ANSWER, SESSION};
 use crate::generators::{clean, faulty, frame, header, PUBLIC};
 use crate::harness::Harness;
 use crate::random::Random;
 use reference::session::Item;
 
 /// An item and the answer that is printed.
-pub type Turn = (Item, Row);
+pub type Turn = (Item, AnswerForm);
 
 /// Items from a fresh session, with what is printed of them.
 pub struct Exchange {
@@ -21,29 +22,33 @@ pub struct Exchange {
     selected: [u8; 8],
     pub turns: Vec<Turn>,
     /// The session after them.
-    pub after: [u32; SESSION],
+    pub after: SessionForm,
     /// What SRAM has after them, from its first byte on.
     pub loaded: Vec<u8>,
 }
 
-const SERIAL_DIRECTLY: u8 = 2;
+const SERIAL_DIRECTLY: u32 = 2;
 const CAN: u32 = 0;
 const SERIAL: u32 = 1;
 
 /// The answer to a taken item; the identifier is 0 for serial.
-fn echoed(number: u32, identifier: u32, data: &[u8]) -> Row {
-    let mut row = [0; ANSWER];
-    row[0] = number;
-    row[ECHO_IDENTIFIER] = identifier;
-    row[ECHO_LENGTH] = data.len() as u32;
-    for (number, &byte) in row[ECHO..].iter_mut().zip(data) {
-        *number = byte.into();
-    }
-    row
+fn echoed(number: u32, identifier: u32, data: &[u8]) -> AnswerForm {
+    let mut answer = AnswerForm::ZERO;
+    answer.bytes[..data.len()].copy_from_slice(data);
+    answer.numbers[NUMBER] = number;
+    answer.numbers[ECHO_IDENTIFIER] = identifier;
+    answer.numbers[ECHO_LENGTH] = data.len() as u32;
+    answer
 }
 
-const IGNORED: Row = [1, 0, 0, 0, 0, 0, 0, 0, 0, 0, 0, 0, 0];
-const FAULTY: Row = [12, 0, 0, 0, 0, 0, 0, 0, 0, 0, 0, 0, 0];
+const IGNORED: AnswerForm = AnswerForm {
+    bytes: [0; 8],
+    numbers: [1, 0, 0, 0, 0],
+};
+const FAULTY: AnswerForm = AnswerForm {
+    bytes: [0; 8],
+    numbers: [12, 0, 0, 0, 0],
+};
 
 /// `data` by one CAN frame or by clean serial bytes; the last item gets `number`.
 fn sent(port: u32, identifier: u32, data: &[u8], number: u32) -> Vec<Turn> {
@@ -59,32 +64,24 @@ fn sent(port: u32, identifier: u32, data: &[u8], number: u32) -> Vec<Turn> {
     data.iter().enumerate().map(turn).collect()
 }
 
-/// The numbers of a session that holds no password or header bytes.
+/// A session that holds no password or header bytes.
 fn session(
     selected: [u8; 8],
     stage: u32,
     port: u32,
     [start, vle, next, owed, refusal]: [u32; 5],
-) -> [u32; SESSION] {
-    let [a, b, c, d, e, f, g, h] = selected.map(u32::from);
+) -> SessionForm {
+    let [a, b, c, d, e, f, g, h] = selected;
     #[rustfmt::skip]
-    let numbers = [
-        a, b, c, d, e, f, g, h,
-        stage, port, 0,
-        0, 0, 0, 0, 0, 0, 0, 0,
-        start, vle, next, owed, refusal,
-        SERIAL_DIRECTLY.into(),
-    ];
-    numbers
+    let session = SessionForm {
+        bytes: [a, b, c, d, e, f, g, h, 0, 0, 0, 0, 0, 0, 0, 0],
+        numbers: [stage, port, 0, start, vle, next, owed, refusal, SERIAL_DIRECTLY],
+    };
+    session
 }
 
 /// An exchange of which nothing is printed about SRAM.
-fn exchange(
-    name: &'static str,
-    selected: [u8; 8],
-    turns: &[Turn],
-    after: [u32; SESSION],
-) -> Exchange {
+fn exchange(name: &'static str, selected: [u8; 8], turns: &[Turn], after: SessionForm) -> Exchange {
     Exchange {
         name,
         selected,
@@ -103,20 +100,21 @@ impl Exchange {
     pub fn run(&self, harness: &mut Harness) -> Result<(), String> {
         let (name, items) = (self.name, self.items());
         harness.fill();
-        let rows = harness
+        let answers = harness
             .run_fresh(SERIAL_DIRECTLY, self.selected, &items)
             .map_err(|difference| format!("{name}\n{difference}"))?;
-        for (index, (row, (_, printed))) in rows.iter().zip(&self.turns).enumerate() {
-            if row != printed {
-                let lines = numbers(row, printed, answer_name);
+        for (index, (answer, (_, printed))) in answers.iter().zip(&self.turns).enumerate() {
+            if answer != printed {
+                let lines = lines(answer.all(), printed.all(), ANSWER, ANSWER_NAMES);
                 return Err(format!(
                     "{name}, item {} of\n{items:X?}\n{lines}",
                     index + 1
                 ));
             }
         }
-        if harness.numbers() != self.after {
-            let lines = numbers(&harness.numbers(), &self.after, session_name);
+        let session = harness.session();
+        if session != self.after {
+            let lines = lines(session.all(), self.after.all(), SESSION, SESSION_NAMES);
             return Err(format!("{name}, the session after\n{items:X?}\n{lines}"));
         }
         if !harness.sram().starts_with(&self.loaded) {
@@ -126,13 +124,9 @@ impl Exchange {
     }
 }
 
-fn numbers(ours: &[u32], printed: &[u32], name: fn(usize) -> String) -> String {
-    let mut text = format!("  {:<16} {:<24} printed\n", "", "ours");
-    for (index, (ours, printed)) in ours.iter().zip(printed).enumerate() {
-        let [ours, printed] = [ours, printed].map(|number| format!("{number:#x}"));
-        text += &line(&name(index), &ours, &printed);
-    }
-    text
+fn lines(ours: Both, printed: Both, shown: Length, names: Names) -> String {
+    let title = format!("  {:<16} {:<24} printed\n", "", "ours");
+    title + &form_lines(ours, printed, shown, names)
 }
 
 /// 01, the cases P1 to P9, "Run:", the slips, and the items of the capture.
@@ -224,8 +218,8 @@ pub fn trials() -> Vec<Exchange> {
     ]
     .concat();
     let mut after = session(PUBLIC, 1, SERIAL, [0; 5]);
-    after[10] = 1;
-    after[11] = 0xFE;
+    after.numbers[COUNT] = 1;
+    after.bytes[HELD] = 0xFE;
     trials.push(exchange("the capture", PUBLIC, &turns, after));
     trials
 }
@@ -243,8 +237,8 @@ fn faulty_bytes() -> Vec<Exchange> {
         ]
         .concat();
         let (_, last) = turns.last_mut().unwrap();
-        last[JUMP] = 0x4000_0004;
-        last[JUMP_VLE] = vle;
+        last.numbers[JUMP] = 0x4000_0004;
+        last.numbers[JUMP_VLE] = vle;
         let jumped = session(PUBLIC, 5, 0, [0x4000_0004, vle, 0, 0, 0]);
         for count in 0..=turns.len() {
             let (before, behind) = turns.split_at(count);
@@ -279,9 +273,9 @@ pub fn document_002() -> Vec<Exchange> {
             turns.extend(sent(port, 0x013, data, 0));
         }
         let (_, last) = turns.last_mut().unwrap();
-        last[0] = 5;
-        last[JUMP] = 0x4000_0000;
-        last[JUMP_VLE] = vle;
+        last.numbers[NUMBER] = 5;
+        last.numbers[JUMP] = 0x4000_0000;
+        last.numbers[JUMP_VLE] = vle;
         Exchange {
             name,
             selected: PUBLIC,

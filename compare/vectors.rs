@@ -1,6 +1,6 @@
 //! Fixed captures: those that the papers give, and others about each rule.
 
-use crate::c_numbers::{ECHO, ECHO_LENGTH, REFUSAL, STAGE, START};
+use crate::c_numbers::{echo, NUMBER, REFUSAL, STAGE, START};
 use crate::generators::{clean, faulty, frame, header, load, PUBLIC};
 use crate::harness::{BASE, SRAM};
 use crate::replay::Case;
@@ -60,15 +60,14 @@ fn printed_exchanges(cases: &mut Vec<Case>, exchanges: &[Exchange]) {
 /// The text of an exchange, by what is printed of it.
 fn text(exchange: &Exchange) -> String {
     let mut text = String::new();
-    for (count, (_, row)) in (1..).zip(&exchange.turns) {
-        let echo = &row[ECHO..][..row[ECHO_LENGTH] as usize];
-        let echo = match echo {
+    for (count, (_, answer)) in (1..).zip(&exchange.turns) {
+        let echo = match echo(answer) {
             [] => "-".into(),
-            _ => String::from_iter(echo.iter().map(|byte| format!("{byte:02X}"))),
+            echo => String::from_iter(echo.iter().map(|byte| format!("{byte:02X}"))),
         };
-        text += &format!("{count} {} {echo}\n", row[0]);
+        text += &format!("{count} {} {echo}\n", answer.numbers[NUMBER]);
     }
-    let after = &exchange.after;
+    let after = &exchange.after.numbers;
     let end = match after[STAGE] {
         0 => "waiting".into(),
         1 => "password".into(),
