@@ -9,6 +9,8 @@
 #include <stddef.h>
 #include <stdint.h>
 
+#include "boot_assist.h"
+
 enum { SRAM_SIZE = 65536 };
 #define SRAM_BASE 0x40000000u
 
@@ -45,10 +47,10 @@ typedef uint8_t list_call(uint8_t *session_bytes, size_t session_bytes_len, uint
                           const uint32_t *counts, size_t counts_len, const uint8_t *bytes, size_t bytes_len,
                           uint8_t *echoes, size_t echoes_len, uint32_t *answers, size_t answers_len);
 
-session_call boot_assist_flat_session, plain_flat_session;
-byte_call boot_assist_flat_byte, plain_flat_byte;
-frame_call boot_assist_flat_frame, plain_flat_frame;
-list_call boot_assist_flat_list, plain_flat_list;
+session_call plain_flat_session;
+byte_call plain_flat_byte;
+frame_call plain_flat_frame;
+list_call plain_flat_list;
 
 /* Plain C with no interface to keep: the session and the answer are structs by pointer, which only direct.c writes, so
  * that it tests nothing of them, and SRAM has its size. */

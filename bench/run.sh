@@ -63,7 +63,7 @@ time_replay() {
 build_calls() {
     set --
     for unit in plain direct agree calls; do
-        cc -std=c11 -Wall -Wextra -Werror -O3 -c -o "$out/$unit.o" "bench/$unit.c"
+        cc -std=c11 -Wall -Wextra -Werror -O3 -Iinclude -c -o "$out/$unit.o" "bench/$unit.c"
         set -- "$@" "$out/$unit.o"
     done
     cc -o "$out/calls" "$@" "$library"
