@@ -72,14 +72,14 @@ static void list(void)
     static const uint8_t kinds[ITEMS] = {BOOT_ASSIST_KIND_FRAME, BOOT_ASSIST_KIND_FAULTY, BOOT_ASSIST_KIND_FRAME};
     static const uint32_t identifiers[ITEMS] = {BOOT_ASSIST_FRAME_PASSWORD, 0, 0x800};
     static const uint32_t counts[ITEMS] = {BOOT_ASSIST_PASSWORD_SIZE, 1, 0};
-    static uint8_t bytes[BOOT_ASSIST_PASSWORD_SIZE + 1], echoes[ITEMS * BOOT_ASSIST_FRAME_MOST];
+    static uint8_t bytes[BOOT_ASSIST_PASSWORD_SIZE + 1], echoes[ITEMS * BOOT_ASSIST_FRAME_MAX];
     static uint32_t answers[ITEMS * BOOT_ASSIST_ANSWER_NUMBERS];
     memcpy(bytes, password, sizeof password);
     IS(BOOT_ASSIST_ANSWERED, boot_assist_fresh(choice.mode, choice.password, &session));
     IS(BOOT_ASSIST_ANSWERED, boot_assist_list(&session, sram, sizeof sram, ITEMS, kinds, identifiers, counts,
                                               bytes, sizeof bytes, echoes, answers));
-    IS(BOOT_ASSIST_TAKEN, (int)answers[BOOT_ASSIST_ANSWER_NUMBER]);
-    IS(BOOT_ASSIST_ECHO_PASSWORD, (int)answers[BOOT_ASSIST_ANSWER_ECHO_IDENTIFIER]);
+    IS(BOOT_ASSIST_TAKEN, (int)answers[BOOT_ASSIST_AT_NUMBER]);
+    IS(BOOT_ASSIST_ECHO_PASSWORD, (int)answers[BOOT_ASSIST_AT_ECHO_IDENTIFIER]);
     IS(0, memcmp(echoes, password, sizeof password));
     IS(BOOT_ASSIST_IGNORED, (int)answers[BOOT_ASSIST_ANSWER_NUMBERS]);
     IS(BOOT_ASSIST_BAD_FORM, (int)answers[2 * BOOT_ASSIST_ANSWER_NUMBERS]);

@@ -51,12 +51,12 @@ struct plan {
 };
 
 static const struct program {
-    session_call *session;
+    fresh_call *session;
     byte_call *byte;
     frame_call *frame;
     list_call *list;
-} library = {boot_assist_flat_session, boot_assist_flat_byte, boot_assist_flat_frame, boot_assist_flat_list},
-  plain = {plain_flat_session, plain_flat_byte, plain_flat_frame, plain_flat_list};
+} library = {boot_assist_flat_fresh, boot_assist_flat_byte, boot_assist_flat_frame, boot_assist_flat_list},
+  plain = {plain_flat_fresh, plain_flat_byte, plain_flat_frame, plain_flat_list};
 
 static struct memory ours, theirs;
 static struct memory before; /* ours before the call, but for SRAM */
@@ -448,7 +448,7 @@ static void make_item(struct item *item, const struct plan *plan, const uint32_t
 
 /* One item by its call. Any mark but 0 is a faulty byte's. */
 static uint8_t hand_in(const struct program *program, struct memory *memory, const struct lengths *lengths,
-                       const struct item *item, uint8_t mark)
+                       const struct item *item, uint32_t mark)
 {
     uint8_t *session_bytes = at(memory->session_bytes, lengths->session_bytes);
     uint32_t *session = at(memory->session, lengths->session);
@@ -483,7 +483,7 @@ static void compare_item(const struct plan *plan)
     static struct item item;
     struct lengths lengths = make_lengths(1);
     make_item(&item, plan, ours.session);
-    uint8_t mark = item.kind == FAULTY ? (uint8_t)(1 + below(255)) : 0;
+    uint32_t mark = item.kind == FAULTY ? (uint32_t)(1 + below(255)) << 8 * below(4) : 0;
     prepare(1);
     uint8_t our_number = hand_in(&library, &ours, &lengths, &item, mark);
     uint8_t their_number = hand_in(&plain, &theirs, &lengths, &item, mark);

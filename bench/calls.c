@@ -147,7 +147,7 @@ static uint8_t run(int program, int way)
 /* The time of one load in ns. The last answer must be 5, and all bytes must be in SRAM. */
 static double load(int program, int way)
 {
-    plain_flat_session(DIRECTLY, opening, 8, session.bytes, SESSION_BYTES, session.numbers, SESSION_NUMBERS);
+    plain_flat_fresh(DIRECTLY, opening, 8, session.bytes, SESSION_BYTES, session.numbers, SESSION_NUMBERS);
     direct_fresh(&direct, opening);
     memset(sram, 0, SRAM_SIZE);
     double start = now();

@@ -32,11 +32,11 @@ enum { STAGE, PORT, COUNT, START, VLE, NEXT, OWED, REFUSAL, ENTERED, SESSION_NUM
 enum { ECHO_BYTES = 8 };
 enum { NUMBER, ECHO_IDENTIFIER, ECHO_LENGTH, JUMP, JUMP_VLE, ANSWER_NUMBERS };
 
-typedef uint8_t session_call(uint32_t mode, const uint8_t *password, size_t password_len,
+typedef uint8_t fresh_call(uint32_t mode, const uint8_t *password, size_t password_len,
                              uint8_t *session_bytes, size_t session_bytes_len,
                              uint32_t *session, size_t session_len);
 typedef uint8_t byte_call(uint8_t *session_bytes, size_t session_bytes_len, uint32_t *session, size_t session_len,
-                          uint8_t *sram, size_t sram_len, uint8_t byte, uint8_t faulty,
+                          uint8_t *sram, size_t sram_len, uint8_t byte, uint32_t faulty,
                           uint8_t *echo, size_t echo_len, uint32_t *answer, size_t answer_len);
 typedef uint8_t frame_call(uint8_t *session_bytes, size_t session_bytes_len, uint32_t *session, size_t session_len,
                            uint8_t *sram, size_t sram_len, uint32_t identifier, const uint8_t *data, size_t data_len,
@@ -47,7 +47,7 @@ typedef uint8_t list_call(uint8_t *session_bytes, size_t session_bytes_len, uint
                           const uint32_t *counts, size_t counts_len, const uint8_t *bytes, size_t bytes_len,
                           uint8_t *echoes, size_t echoes_len, uint32_t *answers, size_t answers_len);
 
-session_call plain_flat_session;
+fresh_call plain_flat_fresh;
 byte_call plain_flat_byte;
 frame_call plain_flat_frame;
 list_call plain_flat_list;

@@ -196,7 +196,7 @@ static bool is_formed(uint32_t identifier, size_t len)
     return identifier <= LAST_IDENTIFIER && len <= 8;
 }
 
-uint8_t plain_flat_session(uint32_t mode, const uint8_t *password, size_t password_len,
+uint8_t plain_flat_fresh(uint32_t mode, const uint8_t *password, size_t password_len,
                            uint8_t *session_bytes, size_t session_bytes_len, uint32_t *session, size_t session_len)
 {
     if (mode < DIRECTLY || mode > FROM_EXTERNAL || password_len != 8 ||
@@ -210,7 +210,7 @@ uint8_t plain_flat_session(uint32_t mode, const uint8_t *password, size_t passwo
 }
 
 uint8_t plain_flat_byte(uint8_t *session_bytes, size_t session_bytes_len, uint32_t *session, size_t session_len,
-                        uint8_t *sram, size_t sram_len, uint8_t byte, uint8_t faulty,
+                        uint8_t *sram, size_t sram_len, uint8_t byte, uint32_t faulty,
                         uint8_t *echo, size_t echo_len, uint32_t *answer, size_t answer_len)
 {
     if (sram_len != SRAM_SIZE)

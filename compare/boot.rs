@@ -84,7 +84,7 @@ pub fn run(mut random: Random, count: u64, tally: &mut Tally) -> Result<(), Stri
 
 /// An input of the boot choice.
 struct Input {
-    bootcfg: u8,
+    bootcfg: u32,
     flash_len: usize,
     /// The bytes at each place; the flash may end before or in them.
     places: [[u8; 8]; 6],
@@ -159,7 +159,7 @@ impl Boot<'_> {
 
     /// An input with every length right and the largest flash. Whether its places and
     /// its head are good is told; the rest is random.
-    fn input(&mut self, bootcfg: u8, good: u8, good_head: bool) -> Input {
+    fn input(&mut self, bootcfg: u32, good: u8, good_head: bool) -> Input {
         let (censorship, serial) = (self.control(), self.control());
         Input {
             bootcfg,
@@ -173,7 +173,7 @@ impl Boot<'_> {
 
     /// Flash ends about each place's end, empty flash, the largest, and some too large, of
     /// which 32 bits would cut the last ones to small ones.
-    fn flash_lengths(&mut self, bootcfg: u8) -> Result<(), String> {
+    fn flash_lengths(&mut self, bootcfg: u32) -> Result<(), String> {
         for (rank, place) in PLACES.into_iter().enumerate() {
             for flash_len in place..=place + 16 {
                 for good in [1 << rank, ALL] {
@@ -194,7 +194,7 @@ impl Boot<'_> {
     }
 
     /// Every set of good places, with the external head good and bad.
-    fn good_places(&mut self, bootcfg: u8) -> Result<(), String> {
+    fn good_places(&mut self, bootcfg: u32) -> Result<(), String> {
         for good in NONE..=ALL {
             for good_head in [false, true] {
                 let input = self.input(bootcfg, good, good_head);
@@ -206,7 +206,7 @@ impl Boot<'_> {
 
     /// Every first and every second byte of the half word, and the boot identifier in
     /// the first or third byte, at each place and in the external head.
-    fn half_words(&mut self, bootcfg: u8) -> Result<(), String> {
+    fn half_words(&mut self, bootcfg: u32) -> Result<(), String> {
         for rank in 0..PLACES.len() {
             for at in [0, 1] {
                 for byte in 0..=255 {
@@ -229,7 +229,7 @@ impl Boot<'_> {
     }
 
     /// Both control half words, with something to boot and with nothing.
-    fn controls(&mut self, bootcfg: u8) -> Result<(), String> {
+    fn controls(&mut self, bootcfg: u32) -> Result<(), String> {
         let controls = |random: &mut Random| {
             let other = random.number() as u16;
             CONTROLS.into_iter().chain([other])
@@ -246,7 +246,7 @@ impl Boot<'_> {
         Ok(())
     }
 
-    fn shadow_and_head_lengths(&mut self, bootcfg: u8) -> Result<(), String> {
+    fn shadow_and_head_lengths(&mut self, bootcfg: u32) -> Result<(), String> {
         for shadow_len in 0..=16 {
             for head_len in 0..=16 {
                 let mut input = self.input(bootcfg, ALL, true);
@@ -259,7 +259,8 @@ impl Boot<'_> {
     }
 
     fn bootcfgs(&mut self) -> Result<(), String> {
-        for bootcfg in 0..=255 {
+        let wide = [256, 257, 258, 259, 65_536, u32::MAX];
+        for bootcfg in (0..=255).chain(wide) {
             for (good, good_head) in [(NONE, false), (ALL, true)] {
                 let input = self.input(bootcfg, good, good_head);
                 self.compare(&input)?;
@@ -307,7 +308,7 @@ impl Boot<'_> {
         }
 
         let bootcfg = if self.random.chance(32) {
-            self.random.byte()
+            u32::from(self.random.byte()) << self.random.pick(&[0, 0, 8, 24])
         } else {
             self.random.pick(&[0, 0, 0, 1, 2, 3])
         };
@@ -472,7 +473,9 @@ fn expected_choice(input: &Input, flash: &[u8]) -> Result<Choice, u8> {
     if input.choice != CHOICE {
         return Err(9);
     }
-    choose(input.bootcfg, flash, &input.shadow, &input.head)
+    // The second program takes 8 bits of BOOTCFG; a number that they do not hold is as wrong as 255.
+    let bootcfg = u8::try_from(input.bootcfg).unwrap_or(255);
+    choose(bootcfg, flash, &input.shadow, &input.head)
 }
 
 /// As `expected_choice`, for the rows. External rows are refused whatever the length.

@@ -25,8 +25,8 @@ pub const VERDICT: usize = 4;
 pub const RECORD: usize = 4;
 
 extern "C" {
-    fn boot_assist_flat_choice(
-        bootcfg: u8,
+    fn boot_assist_flat_choose(
+        bootcfg: u32,
         flash: *const u8,
         flash_len: usize,
         shadow: *const u8,
@@ -41,7 +41,7 @@ extern "C" {
 
     fn boot_assist_flat_choice_rows(mode: u32, rows: *mut u32, rows_len: usize) -> u8;
 
-    fn boot_assist_flat_session(
+    fn boot_assist_flat_fresh(
         mode: u32,
         password: *const u8,
         password_len: usize,
@@ -84,7 +84,7 @@ extern "C" {
         sram: *mut u8,
         sram_len: usize,
         byte: u8,
-        faulty: u8,
+        faulty: u32,
         echo: *mut u8,
         echo_len: usize,
         answer: *mut u32,
@@ -115,7 +115,7 @@ extern "C" {
     fn boot_assist_flat_begin(
         port: u32,
         start: u32,
-        vle: u8,
+        vle: u32,
         password: *const u8,
         password_len: usize,
         image: *const u8,
@@ -339,7 +339,7 @@ impl Library {
 
     pub fn choose(
         &mut self,
-        bootcfg: u8,
+        bootcfg: u32,
         flash: &[u8],
         shadow: &[u8],
         head: &[u8],
@@ -367,7 +367,7 @@ impl Library {
         let (password, fields) = choice.lent_mut(length);
         // SAFETY: as above.
         unsafe {
-            boot_assist_flat_choice(
+            boot_assist_flat_choose(
                 bootcfg,
                 self.at(flash),
                 flash.len(),
@@ -413,7 +413,7 @@ impl Library {
         let (bytes, numbers) = session.lent_mut(length);
         // SAFETY: as above.
         unsafe {
-            boot_assist_flat_session(
+            boot_assist_flat_fresh(
                 mode,
                 self.at(password),
                 password.len(),
@@ -503,8 +503,8 @@ impl Library {
         }
     }
 
-    /// A number that is not 0 marks a faulty byte; a typed call gets it with its bits in any
-    /// of four bytes.
+    /// A number that is not 0 marks a faulty byte; the call gets it with its bits in any of
+    /// four bytes.
     pub fn byte(
         &mut self,
         (session, session_len): (&mut SessionRoom, Length),
@@ -543,7 +543,7 @@ impl Library {
                 self.at_mut(sram),
                 sram.len(),
                 byte,
-                mark,
+                u32::from(mark) << self.way.shift,
                 self.at_mut(echo),
                 echo.len(),
                 self.at_mut(answer),
@@ -615,8 +615,8 @@ impl Library {
         }
     }
 
-    /// The password and the image are only read. A typed call gets the bits of VLE in any of
-    /// four bytes.
+    /// The password and the image are only read. The call gets the bits of VLE in any of four
+    /// bytes.
     pub fn begin(
         &mut self,
         port: u32,
@@ -650,7 +650,7 @@ impl Library {
             boot_assist_flat_begin(
                 port,
                 start,
-                vle,
+                u32::from(vle) << self.way.shift,
                 self.at_mut(password),
                 password.len(),
                 self.at_mut(image),

@@ -5,7 +5,7 @@
  */
 #include "boot_assist.h"
 
-uint8_t typed_choose(uint8_t bootcfg, const uint8_t *flash, size_t flash_len, const uint8_t *shadow,
+uint8_t typed_choose(uint32_t bootcfg, const uint8_t *flash, size_t flash_len, const uint8_t *shadow,
                      const uint8_t *external, struct boot_assist_choice *choice)
 {
     return boot_assist_choose(bootcfg, flash, flash_len, shadow, external, choice);
@@ -107,8 +107,8 @@ const size_t typed_record_places[] = {
 };
 
 const size_t typed_sizes[] = {
-    BOOT_ASSIST_SRAM_BASE, BOOT_ASSIST_SRAM_SIZE, BOOT_ASSIST_FLASH_MOST, BOOT_ASSIST_SHADOW_SIZE,
-    BOOT_ASSIST_EXTERNAL_SIZE, BOOT_ASSIST_PASSWORD_SIZE, BOOT_ASSIST_FRAME_MOST, BOOT_ASSIST_ROWS,
+    BOOT_ASSIST_SRAM_BASE, BOOT_ASSIST_SRAM_SIZE, BOOT_ASSIST_FLASH_MAX, BOOT_ASSIST_SHADOW_SIZE,
+    BOOT_ASSIST_EXTERNAL_SIZE, BOOT_ASSIST_PASSWORD_SIZE, BOOT_ASSIST_FRAME_MAX, BOOT_ASSIST_ROWS,
     BOOT_ASSIST_ANSWER_NUMBERS,
 };
 

@@ -112,7 +112,7 @@ impl<T> Around<T> {
 
 extern "C" {
     pub fn typed_choose(
-        bootcfg: u8,
+        bootcfg: u32,
         flash: *const u8,
         flash_len: usize,
         shadow: *const u8,

@@ -58,7 +58,7 @@ static void show_rows(uint32_t mode)
 
 int main(int argc, char **argv)
 {
-    static uint8_t flash[BOOT_ASSIST_FLASH_MOST], shadow[BOOT_ASSIST_SHADOW_SIZE], external[BOOT_ASSIST_EXTERNAL_SIZE];
+    static uint8_t flash[BOOT_ASSIST_FLASH_MAX], shadow[BOOT_ASSIST_SHADOW_SIZE], external[BOOT_ASSIST_EXTERNAL_SIZE];
     struct boot_assist_choice choice;
     argument_count(argc, argv, names, 4);
     uint8_t bootcfg = (uint8_t)argument_number("BOOTCFG", argv[1], 10, UINT8_MAX);

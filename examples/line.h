@@ -120,10 +120,10 @@ static inline int line_get(int fd, uint32_t port, struct line_item *item, int mi
     return 1;
 }
 
-/* Sends one frame, or serial bytes; at most BOOT_ASSIST_FRAME_MOST of them. */
+/* Sends one frame, or serial bytes; at most BOOT_ASSIST_FRAME_MAX of them. */
 static inline int line_put(int fd, uint32_t port, uint32_t identifier, const uint8_t *bytes, size_t count)
 {
-    uint8_t packet[LINE_IDENTIFIER + BOOT_ASSIST_FRAME_MOST] = {(uint8_t)(identifier >> 8), (uint8_t)identifier};
+    uint8_t packet[LINE_IDENTIFIER + BOOT_ASSIST_FRAME_MAX] = {(uint8_t)(identifier >> 8), (uint8_t)identifier};
     if (port != BOOT_ASSIST_PORT_CAN)
         return line_write(fd, bytes, count);
     memcpy(packet + LINE_IDENTIFIER, bytes, count);

@@ -3,8 +3,9 @@
  * `rt staticlib boot_assist` writes for x86-64 Linux.
  *
  * A head calls boot_assist_choose and, for serial boot, boot_assist_fresh, then boot_assist_frame or boot_assist_byte
- * with each item as it comes. Each time it sends the echo of the answer, and where the number is BOOT_ASSIST_JUMPS it
- * then jumps to the answer's jump address: first the echo, then the jump.
+ * with each item as it comes. Where the answer's echo_length is not 0 it sends the echo, and where the number is
+ * BOOT_ASSIST_JUMPS it then jumps to the answer's jump address: first the echo, then the jump. Where a call is refused
+ * (6 to 9) no answer is written and nothing is sent: what the answer still holds is an earlier one's.
  * A truck calls boot_assist_begin, and then in turn boot_assist_ask for an item, which it sends, and boot_assist_tell
  * with the echo that it heard. boot_assist_read reads a capture file.
  *
@@ -46,11 +47,11 @@ extern "C" {
 #define BOOT_ASSIST_SRAM_BASE UINT32_C(0x40000000)
 #define BOOT_ASSIST_SRAM_SIZE 65536
 
-#define BOOT_ASSIST_FLASH_MOST 2097152 /* bytes of the longest internal flash */
+#define BOOT_ASSIST_FLASH_MAX 2097152 /* bytes of the longest internal flash */
 #define BOOT_ASSIST_SHADOW_SIZE 12
 #define BOOT_ASSIST_EXTERNAL_SIZE 8
 #define BOOT_ASSIST_PASSWORD_SIZE 8
-#define BOOT_ASSIST_FRAME_MOST 8 /* data bytes of the longest CAN frame, and of the longest echo */
+#define BOOT_ASSIST_FRAME_MAX 8 /* data bytes of the longest CAN frame, and of the longest echo */
 #define BOOT_ASSIST_ROWS 5
 
 /* The public password, for an array of BOOT_ASSIST_PASSWORD_SIZE bytes. */
@@ -179,8 +180,8 @@ struct boot_assist_session {
 /* An answer to an item. Where there is no echo its identifier, length and bytes are 0; the identifier is 0 for serial
  * too. The jump address and VLE are 0 unless the number is 5. */
 struct boot_assist_answer {
-    uint8_t echo[BOOT_ASSIST_FRAME_MOST]; /* the first echo_length are echoed; the others are 0 */
-    uint32_t number;                      /* the number that the call returns */
+    uint8_t echo[BOOT_ASSIST_FRAME_MAX]; /* the first echo_length are echoed; the others are 0 */
+    uint32_t number;                      /* the number that the call returns, unless it is refused */
     uint32_t echo_identifier;             /* CAN: BOOT_ASSIST_ECHO_PASSWORD, _HEADER or _DATA */
     uint32_t echo_length;
     uint32_t jump;
@@ -203,7 +204,7 @@ struct boot_assist_sender {
 
 /* An item to send: a CAN frame, or a clean serial byte. */
 struct boot_assist_item {
-    uint8_t bytes[BOOT_ASSIST_FRAME_MOST]; /* the first count are the item's; the others are 0 */
+    uint8_t bytes[BOOT_ASSIST_FRAME_MAX]; /* the first count are the item's; the others are 0 */
     uint32_t port;                         /* a boot_assist_port */
     uint32_t identifier;                   /* CAN: BOOT_ASSIST_FRAME_PASSWORD, _HEADER or _DATA; serial: 0 */
     uint32_t count;                        /* CAN: 1 to 8; serial: 1 */
@@ -220,15 +221,15 @@ struct boot_assist_record {
 /*
  * The boot choice.
  *
- * bootcfg       the BOOTCFG pins, 0 to 3
- * flash         the internal flash from address 0, at most BOOT_ASSIST_FLASH_MOST bytes
+ * bootcfg       the BOOTCFG pins, 0 to 3; any other number gets 9
+ * flash         the internal flash from address 0, at most BOOT_ASSIST_FLASH_MAX bytes
  * shadow        the flash password (8 bytes), censorship control (2), serial boot control (2)
  * external      the external head: the first 8 bytes of external memory
  * choice        written
  *
  * Returns 0; or 9 for another BOOTCFG or a longer flash.
  */
-static inline uint8_t boot_assist_choose(uint8_t bootcfg,
+static inline uint8_t boot_assist_choose(uint32_t bootcfg,
                                          const uint8_t *flash, size_t flash_len,
                                          const uint8_t shadow[BOOT_ASSIST_SHADOW_SIZE],
                                          const uint8_t external[BOOT_ASSIST_EXTERNAL_SIZE],
@@ -249,7 +250,7 @@ static inline uint8_t boot_assist_choice_rows(uint32_t mode, struct boot_assist_
  * A fresh session, from a serial boot choice; a reset is a new boot choice, and SRAM keeps its bytes.
  *
  * mode          the choice's mode: one of the three of serial boot
- * password      the choice's password
+ * password      the choice's password (not this session's own: no output overlaps another argument)
  * session       written
  *
  * Returns 0; or 9 for another mode.
@@ -297,13 +298,13 @@ static inline uint8_t boot_assist_byte(struct boot_assist_session *session,
                                        uint8_t byte, bool faulty,
                                        struct boot_assist_answer *answer);
 
-/* The numbers of an answer in a list of them. */
-enum boot_assist_answer_number {
-    BOOT_ASSIST_ANSWER_NUMBER = 0,
-    BOOT_ASSIST_ANSWER_ECHO_IDENTIFIER = 1,
-    BOOT_ASSIST_ANSWER_ECHO_LENGTH = 2,
-    BOOT_ASSIST_ANSWER_JUMP = 3,
-    BOOT_ASSIST_ANSWER_VLE = 4,
+/* Where the numbers of an answer stand among those of a list: those of item i from i * BOOT_ASSIST_ANSWER_NUMBERS on. */
+enum boot_assist_at {
+    BOOT_ASSIST_AT_NUMBER = 0,
+    BOOT_ASSIST_AT_ECHO_IDENTIFIER = 1,
+    BOOT_ASSIST_AT_ECHO_LENGTH = 2,
+    BOOT_ASSIST_AT_JUMP = 3,
+    BOOT_ASSIST_AT_VLE = 4,
     BOOT_ASSIST_ANSWER_NUMBERS = 5
 };
 
@@ -316,8 +317,8 @@ enum boot_assist_answer_number {
  * identifiers   a number for each item: of a frame its identifier; of a serial byte it is not looked at
  * counts        a number for each item: how many of the bytes are its own, of a serial byte 1
  * bytes         the bytes of all items, one item's behind another's
- * echoes        BOOT_ASSIST_FRAME_MOST bytes for each item, written: the answer's echo
- * answers       BOOT_ASSIST_ANSWER_NUMBERS numbers for each item, written in the order of boot_assist_answer_number
+ * echoes        BOOT_ASSIST_FRAME_MAX bytes for each item, written: the answer's echo
+ * answers       BOOT_ASSIST_ANSWER_NUMBERS numbers for each item, written in the order of boot_assist_at
  *
  * Returns 0, also for a list of no items; or 7, then 8, then 6 where a kind or the counts, whose sum is the number of
  * bytes, do not fit. An item that is refused for its form has its 6 in its answer.
@@ -330,7 +331,7 @@ static inline uint8_t boot_assist_list(struct boot_assist_session *session,
                                        uint8_t *echoes, uint32_t *answers);
 
 /*
- * Begins a load, whatever the sender held before.
+ * Begins a load, whatever the sender held before. The head must be fresh (boot_assist_tell says why).
  *
  * port          a boot_assist_port
  * start         the start address, sent as it is; the head drops its two lowest bits
@@ -374,7 +375,7 @@ static inline uint8_t boot_assist_ask(struct boot_assist_sender *sender,
  * port          a boot_assist_port: where the echo was heard
  * identifier    of a CAN echo, any; of a serial one it is not looked at
  * bytes         the bytes that were heard, of any length; if nothing came, of length 0, by either port
- * verdict       written: a boot_assist_verdict
+ * verdict       written: a boot_assist_verdict; not NULL
  *
  * Returns 0; or 1 with no load going, then 8 for a load that is not sound, then 1 with no item out, then 9 for a number
  * that is no port.
@@ -417,8 +418,8 @@ enum boot_assist_length {
 };
 
 /*
- * An answer has BOOT_ASSIST_ANSWER_NUMBERS in the order of boot_assist_answer_number. A password (sender_bytes is one),
- * the external head, an echo and item_bytes have 8 bytes, the shadow row 12; echoes and answers have as many for each
+ * An answer has BOOT_ASSIST_ANSWER_NUMBERS in the order of boot_assist_at. A password, the external head, an echo,
+ * sender_bytes and item_bytes have 8 bytes, the shadow row 12; echoes and answers have as many for each
  * item of a list. Of faulty and vle 0 means no, any other number yes.
  *
  * What is handed in or written with another length gets this number:
@@ -430,7 +431,7 @@ enum boot_assist_length {
  *                        told, before any other number
  *   6                    what a list has for each item, echoes and answers among it, as if its parts did not fit
  */
-uint8_t boot_assist_flat_choice(uint8_t bootcfg,
+uint8_t boot_assist_flat_choose(uint32_t bootcfg,
                                 const uint8_t *flash, size_t flash_len,
                                 const uint8_t *shadow, size_t shadow_len,
                                 const uint8_t *external, size_t external_len,
@@ -439,7 +440,7 @@ uint8_t boot_assist_flat_choice(uint8_t bootcfg,
 
 uint8_t boot_assist_flat_choice_rows(uint32_t mode, uint32_t *rows, size_t rows_len);
 
-uint8_t boot_assist_flat_session(uint32_t mode,
+uint8_t boot_assist_flat_fresh(uint32_t mode,
                                  const uint8_t *password, size_t password_len,
                                  uint8_t *session_bytes, size_t session_bytes_len,
                                  uint32_t *session, size_t session_len);
@@ -459,7 +460,7 @@ uint8_t boot_assist_flat_frame(uint8_t *session_bytes, size_t session_bytes_len,
 uint8_t boot_assist_flat_byte(uint8_t *session_bytes, size_t session_bytes_len,
                               uint32_t *session, size_t session_len,
                               uint8_t *sram, size_t sram_len,
-                              uint8_t byte, uint8_t faulty,
+                              uint8_t byte, uint32_t faulty,
                               uint8_t *echo, size_t echo_len,
                               uint32_t *answer, size_t answer_len);
 
@@ -473,7 +474,7 @@ uint8_t boot_assist_flat_list(uint8_t *session_bytes, size_t session_bytes_len,
                               uint8_t *echoes, size_t echoes_len,
                               uint32_t *answers, size_t answers_len);
 
-uint8_t boot_assist_flat_begin(uint32_t port, uint32_t start, uint8_t vle,
+uint8_t boot_assist_flat_begin(uint32_t port, uint32_t start, uint32_t vle,
                                const uint8_t *password, size_t password_len,
                                const uint8_t *image, size_t image_len,
                                uint8_t *sender_bytes, size_t sender_bytes_len,
@@ -496,31 +497,37 @@ uint8_t boot_assist_flat_read(const uint8_t *capture, size_t capture_len,
                               size_t at,
                               size_t *record, size_t record_len);
 
-/* The rest is how the typed calls hand their arguments on. No struct has padding, so its bytes lie one after the other,
- * and so do its numbers. */
+/* The rest is how the typed calls hand their arguments on. In each struct the bytes come first and the numbers lie one
+ * after the other behind them, as the assertions say, so both are handed on as lists where they lie. (That C lets a
+ * pointer to one number reach the next rests on the flat calls' being compiled apart.) */
 #if defined(__cplusplus)
-#define BOOT_ASSIST_SIZE_IS_(type, size) static_assert(sizeof(struct type) == (size), #type " has padding")
+#define BOOT_ASSIST_HOLDS_(name, fact) static_assert(fact, #name)
 #elif defined(__STDC_VERSION__) && __STDC_VERSION__ >= 201112L
-#define BOOT_ASSIST_SIZE_IS_(type, size) _Static_assert(sizeof(struct type) == (size), #type " has padding")
+#define BOOT_ASSIST_HOLDS_(name, fact) _Static_assert(fact, #name)
 #else
-#define BOOT_ASSIST_SIZE_IS_(type, size) typedef char type##_has_no_padding[sizeof(struct type) == (size) ? 1 : -1]
+#define BOOT_ASSIST_HOLDS_(name, fact) typedef char name[(fact) ? 1 : -1]
 #endif
-BOOT_ASSIST_SIZE_IS_(boot_assist_choice, 8 + 4 * BOOT_ASSIST_CHOICE_NUMBERS);
-BOOT_ASSIST_SIZE_IS_(boot_assist_row, 4 * BOOT_ASSIST_ROW_NUMBERS);
-BOOT_ASSIST_SIZE_IS_(boot_assist_session, BOOT_ASSIST_SESSION_BYTES + 4 * BOOT_ASSIST_SESSION_NUMBERS);
-BOOT_ASSIST_SIZE_IS_(boot_assist_answer, 8 + 4 * BOOT_ASSIST_ANSWER_NUMBERS);
-BOOT_ASSIST_SIZE_IS_(boot_assist_sender, 8 + 4 * BOOT_ASSIST_SENDER_NUMBERS);
-BOOT_ASSIST_SIZE_IS_(boot_assist_item, 8 + 4 * BOOT_ASSIST_ITEM_NUMBERS);
-BOOT_ASSIST_SIZE_IS_(boot_assist_record, sizeof(size_t) * BOOT_ASSIST_RECORD_NUMBERS);
-#undef BOOT_ASSIST_SIZE_IS_
+#define BOOT_ASSIST_LAID_OUT_(type, first, bytes, numbers)                                                             \
+    BOOT_ASSIST_HOLDS_(type##_is_laid_out, offsetof(struct type, first) == (bytes) &&                                  \
+                                               sizeof(struct type) == (bytes) + (numbers) * sizeof(uint32_t))
+BOOT_ASSIST_LAID_OUT_(boot_assist_choice, mode, BOOT_ASSIST_PASSWORD_SIZE, BOOT_ASSIST_CHOICE_NUMBERS);
+BOOT_ASSIST_LAID_OUT_(boot_assist_row, logical, 0, BOOT_ASSIST_ROW_NUMBERS);
+BOOT_ASSIST_LAID_OUT_(boot_assist_session, stage, BOOT_ASSIST_SESSION_BYTES, BOOT_ASSIST_SESSION_NUMBERS);
+BOOT_ASSIST_LAID_OUT_(boot_assist_answer, number, BOOT_ASSIST_FRAME_MAX, BOOT_ASSIST_ANSWER_NUMBERS);
+BOOT_ASSIST_LAID_OUT_(boot_assist_sender, going, BOOT_ASSIST_PASSWORD_SIZE, BOOT_ASSIST_SENDER_NUMBERS);
+BOOT_ASSIST_LAID_OUT_(boot_assist_item, port, BOOT_ASSIST_FRAME_MAX, BOOT_ASSIST_ITEM_NUMBERS);
+BOOT_ASSIST_HOLDS_(boot_assist_record_is_laid_out, offsetof(struct boot_assist_record, kind) == 0 &&
+                   sizeof(struct boot_assist_record) == BOOT_ASSIST_RECORD_NUMBERS * sizeof(size_t));
+#undef BOOT_ASSIST_LAID_OUT_
+#undef BOOT_ASSIST_HOLDS_
 
-static inline uint8_t boot_assist_choose(uint8_t bootcfg,
+static inline uint8_t boot_assist_choose(uint32_t bootcfg,
                                          const uint8_t *flash, size_t flash_len,
                                          const uint8_t shadow[BOOT_ASSIST_SHADOW_SIZE],
                                          const uint8_t external[BOOT_ASSIST_EXTERNAL_SIZE],
                                          struct boot_assist_choice *choice)
 {
-    return boot_assist_flat_choice(bootcfg, flash, flash_len, shadow, BOOT_ASSIST_SHADOW_SIZE,
+    return boot_assist_flat_choose(bootcfg, flash, flash_len, shadow, BOOT_ASSIST_SHADOW_SIZE,
                                    external, BOOT_ASSIST_EXTERNAL_SIZE, &choice->mode, BOOT_ASSIST_CHOICE_NUMBERS,
                                    choice->password, BOOT_ASSIST_PASSWORD_SIZE);
 }
@@ -533,15 +540,15 @@ static inline uint8_t boot_assist_choice_rows(uint32_t mode, struct boot_assist_
 static inline uint8_t boot_assist_fresh(uint32_t mode, const uint8_t password[BOOT_ASSIST_PASSWORD_SIZE],
                                         struct boot_assist_session *session)
 {
-    return boot_assist_flat_session(mode, password, BOOT_ASSIST_PASSWORD_SIZE,
-                                    session->selected, BOOT_ASSIST_SESSION_BYTES,
-                                    &session->stage, BOOT_ASSIST_SESSION_NUMBERS);
+    return boot_assist_flat_fresh(mode, password, BOOT_ASSIST_PASSWORD_SIZE,
+                                  (uint8_t *)session, BOOT_ASSIST_SESSION_BYTES,
+                                  &session->stage, BOOT_ASSIST_SESSION_NUMBERS);
 }
 
 static inline uint8_t boot_assist_session_rows(const struct boot_assist_session *session,
                                                struct boot_assist_row rows[BOOT_ASSIST_ROWS])
 {
-    return boot_assist_flat_session_rows(session->selected, BOOT_ASSIST_SESSION_BYTES,
+    return boot_assist_flat_session_rows((const uint8_t *)session, BOOT_ASSIST_SESSION_BYTES,
                                          &session->stage, BOOT_ASSIST_SESSION_NUMBERS,
                                          &rows->logical, BOOT_ASSIST_ROWS * BOOT_ASSIST_ROW_NUMBERS);
 }
@@ -552,10 +559,10 @@ static inline uint8_t boot_assist_frame(struct boot_assist_session *session,
                                         const uint8_t *data, size_t data_len,
                                         struct boot_assist_answer *answer)
 {
-    return boot_assist_flat_frame(session->selected, BOOT_ASSIST_SESSION_BYTES,
+    return boot_assist_flat_frame((uint8_t *)session, BOOT_ASSIST_SESSION_BYTES,
                                   &session->stage, BOOT_ASSIST_SESSION_NUMBERS,
                                   sram, sram_len, identifier, data, data_len,
-                                  answer->echo, BOOT_ASSIST_FRAME_MOST, &answer->number, BOOT_ASSIST_ANSWER_NUMBERS);
+                                  answer->echo, BOOT_ASSIST_FRAME_MAX, &answer->number, BOOT_ASSIST_ANSWER_NUMBERS);
 }
 
 static inline uint8_t boot_assist_byte(struct boot_assist_session *session,
@@ -563,10 +570,10 @@ static inline uint8_t boot_assist_byte(struct boot_assist_session *session,
                                        uint8_t byte, bool faulty,
                                        struct boot_assist_answer *answer)
 {
-    return boot_assist_flat_byte(session->selected, BOOT_ASSIST_SESSION_BYTES,
+    return boot_assist_flat_byte((uint8_t *)session, BOOT_ASSIST_SESSION_BYTES,
                                  &session->stage, BOOT_ASSIST_SESSION_NUMBERS,
                                  sram, sram_len, byte, faulty ? 1 : 0,
-                                 answer->echo, BOOT_ASSIST_FRAME_MOST, &answer->number, BOOT_ASSIST_ANSWER_NUMBERS);
+                                 answer->echo, BOOT_ASSIST_FRAME_MAX, &answer->number, BOOT_ASSIST_ANSWER_NUMBERS);
 }
 
 static inline uint8_t boot_assist_list(struct boot_assist_session *session,
@@ -576,10 +583,10 @@ static inline uint8_t boot_assist_list(struct boot_assist_session *session,
                                        const uint8_t *bytes, size_t bytes_len,
                                        uint8_t *echoes, uint32_t *answers)
 {
-    return boot_assist_flat_list(session->selected, BOOT_ASSIST_SESSION_BYTES,
+    return boot_assist_flat_list((uint8_t *)session, BOOT_ASSIST_SESSION_BYTES,
                                  &session->stage, BOOT_ASSIST_SESSION_NUMBERS,
                                  sram, sram_len, kinds, items, identifiers, items, counts, items, bytes, bytes_len,
-                                 echoes, items * BOOT_ASSIST_FRAME_MOST, answers, items * BOOT_ASSIST_ANSWER_NUMBERS);
+                                 echoes, items * BOOT_ASSIST_FRAME_MAX, answers, items * BOOT_ASSIST_ANSWER_NUMBERS);
 }
 
 static inline uint8_t boot_assist_begin(uint32_t port, uint32_t start, bool vle,
@@ -598,7 +605,7 @@ static inline uint8_t boot_assist_ask(struct boot_assist_sender *sender,
 {
     return boot_assist_flat_ask(sender->password, BOOT_ASSIST_PASSWORD_SIZE,
                                 &sender->going, BOOT_ASSIST_SENDER_NUMBERS, image, image_len,
-                                item->bytes, BOOT_ASSIST_FRAME_MOST, &item->port, BOOT_ASSIST_ITEM_NUMBERS);
+                                item->bytes, BOOT_ASSIST_FRAME_MAX, &item->port, BOOT_ASSIST_ITEM_NUMBERS);
 }
 
 static inline uint8_t boot_assist_tell(struct boot_assist_sender *sender,

@@ -40,7 +40,7 @@ pub struct Choice {
 }
 
 // Whether the sizes of what is handed in are allowed.
-fn is_allowed(bootcfg: u8, flash: &[u8], shadow: &[u8], external: &[u8]) -> bool
+fn is_allowed(bootcfg: u32, flash: &[u8], shadow: &[u8], external: &[u8]) -> bool
     ensures { λ r. ⌜ r ≡ allowed bootcfg (now (flash .entry)) (now (shadow .entry)) (now (external .entry)) ⌝ }
 {
     (bootcfg <= 3) & (flash.len() <= 2097152) & (shadow.len() == 12) & (external.len() == 8)
@@ -125,7 +125,7 @@ fn chosen_for(asked: Asked, flash: &[u8], shadow: &[u8], external: &[u8]) -> Cho
 }
 
 // The boot choice, for every input.
-pub fn choose(bootcfg: u8, flash: &[u8], shadow: &[u8], external: &[u8]) -> Choice
+pub fn choose(bootcfg: u32, flash: &[u8], shadow: &[u8], external: &[u8]) -> Choice
     ensures { λ r. ⌜ ChoiceClaim bootcfg (now (flash .entry)) (now (shadow .entry)) (now (external .entry)) r ⌝ }
 {
     if is_allowed(bootcfg, flash, shadow, external) {

@@ -4,7 +4,7 @@ ghost use mathlib.Core.List.{[], _∷_};
 ghost use Rattle.capture.specs.Located.{asLocated, locatedAt};
 ghost use Rattle.session_items.specs.declared.Source.{Source};
 ghost use Rattle.session_items.specs.Items.{Item};
-ghost use Rattle.c_answer.specs.Writing.{asForm};
+ghost use Rattle.c_answer.specs.Writing.{asFlat};
 ghost use Rattle.c_choice.specs.Calls.{asChoiceReply, choiceAnswer, asFreshReply, sessionReply};
 ghost use Rattle.c_rows.specs.Calls.{asRowsReply, choiceRowsReply, sessionRowsReply};
 ghost use Rattle.c_items.specs.Calls.{asReply, ItemClaim};
@@ -13,8 +13,8 @@ ghost use Rattle.c_load.specs.Calls.{asBeginReply, replyToBegin, asAskReply, re
 
 // The boot choice.
 #[no_mangle]
-pub extern "C" fn boot_assist_flat_choice(
-    bootcfg: u8,
+pub extern "C" fn boot_assist_flat_choose(
+    bootcfg: u32,
     flash: &[u8],
     shadow: &[u8],
     external: &[u8],
@@ -44,20 +44,20 @@ pub extern "C" fn boot_assist_flat_session_rows(
     session: &[u32],
     rows: &mut [u32],
 ) -> u8
-    ensures { λ r. ⌜ asRowsReply r (now (rows .exit)) ≡ sessionRowsReply (asForm (now («session_bytes» .entry)) (now (session .entry))) (now (rows .entry)) ⌝ }
+    ensures { λ r. ⌜ asRowsReply r (now (rows .exit)) ≡ sessionRowsReply (asFlat (now («session_bytes» .entry)) (now (session .entry))) (now (rows .entry)) ⌝ }
 {
     c_rows::session_rows(session_bytes, session, rows)
 }
 
 // A fresh session, from the mode and the password of a serial choice.
 #[no_mangle]
-pub extern "C" fn boot_assist_flat_session(
+pub extern "C" fn boot_assist_flat_fresh(
     mode: u32,
     password: &[u8],
     session_bytes: &mut [u8],
     session: &mut [u32],
 ) -> u8
-    ensures { λ r. ⌜ asFreshReply r (asForm (now («session_bytes» .exit)) (now (session .exit))) ≡ sessionReply mode (now (password .entry)) (asForm (now («session_bytes» .entry)) (now (session .entry))) ⌝ }
+    ensures { λ r. ⌜ asFreshReply r (asFlat (now («session_bytes» .exit)) (now (session .exit))) ≡ sessionReply mode (now (password .entry)) (asFlat (now («session_bytes» .entry)) (now (session .entry))) ⌝ }
 {
     c_choice::fresh(mode, password, session_bytes, session)
 }
@@ -74,8 +74,8 @@ pub extern "C" fn boot_assist_flat_frame(
     answer: &mut [u32],
 ) -> u8
     ensures { λ r. ⌜
-        ItemClaim (asForm (now («session_bytes» .entry)) (now (session .entry))) (now (sram .entry)) (Item.Of (Source.Can identifier) (now («data» .entry))) (asForm (now (echo .entry)) (now (answer .entry)))
-        (asReply r (asForm (now («session_bytes» .exit)) (now (session .exit))) (now (sram .exit)) (asForm (now (echo .exit)) (now (answer .exit))))
+        ItemClaim (asFlat (now («session_bytes» .entry)) (now (session .entry))) (now (sram .entry)) (Item.Of (Source.Can identifier) (now («data» .entry))) (asFlat (now (echo .entry)) (now (answer .entry)))
+        (asReply r (asFlat (now («session_bytes» .exit)) (now (session .exit))) (now (sram .exit)) (asFlat (now (echo .exit)) (now (answer .exit))))
         ⌝ }
 {
     c_items::frame(session_bytes, session, sram, identifier, data, echo, answer)
@@ -88,13 +88,13 @@ pub extern "C" fn boot_assist_flat_byte(
     session: &mut [u32],
     sram: &mut [u8],
     value: u8,
-    mark: u8,
+    mark: u32,
     echo: &mut [u8],
     answer: &mut [u32],
 ) -> u8
     ensures { λ r. ⌜
-        ItemClaim (asForm (now («session_bytes» .entry)) (now (session .entry))) (now (sram .entry)) (Item.Of (Source.Serial mark) (value ∷ [])) (asForm (now (echo .entry)) (now (answer .entry)))
-        (asReply r (asForm (now («session_bytes» .exit)) (now (session .exit))) (now (sram .exit)) (asForm (now (echo .exit)) (now (answer .exit))))
+        ItemClaim (asFlat (now («session_bytes» .entry)) (now (session .entry))) (now (sram .entry)) (Item.Of (Source.Serial mark) (value ∷ [])) (asFlat (now (echo .entry)) (now (answer .entry)))
+        (asReply r (asFlat (now («session_bytes» .exit)) (now (session .exit))) (now (sram .exit)) (asFlat (now (echo .exit)) (now (answer .exit))))
         ⌝ }
 {
     c_items::byte(session_bytes, session, sram, value, mark, echo, answer)
@@ -114,8 +114,8 @@ pub extern "C" fn boot_assist_flat_list(
     answers: &mut [u32],
 ) -> u8
     ensures { λ r. ⌜
-        ListClaim (asForm (now («session_bytes» .entry)) (now (session .entry))) (now (sram .entry)) (now (kinds .entry)) (now (identifiers .entry)) (now (counts .entry)) (now (bytes .entry)) (asForm (now (echoes .entry)) (now (answers .entry)))
-        (asReply r (asForm (now («session_bytes» .exit)) (now (session .exit))) (now (sram .exit)) (asForm (now (echoes .exit)) (now (answers .exit))))
+        ListClaim (asFlat (now («session_bytes» .entry)) (now (session .entry))) (now (sram .entry)) (now (kinds .entry)) (now (identifiers .entry)) (now (counts .entry)) (now (bytes .entry)) (asFlat (now (echoes .entry)) (now (answers .entry)))
+        (asReply r (asFlat (now («session_bytes» .exit)) (now (session .exit))) (now (sram .exit)) (asFlat (now (echoes .exit)) (now (answers .exit))))
         ⌝ }
 {
     c_list::list(
@@ -136,15 +136,15 @@ pub extern "C" fn boot_assist_flat_list(
 pub extern "C" fn boot_assist_flat_begin(
     port: u32,
     start: u32,
-    vle: u8,
+    vle: u32,
     password: &[u8],
     image: &[u8],
     sender_bytes: &mut [u8],
     sender: &mut [u32],
 ) -> u8
     ensures { λ r. ⌜
-        asBeginReply r (asForm (now («sender_bytes» .exit)) (now (sender .exit)))
-        ≡ replyToBegin port start vle (now (password .entry)) (now (image .entry)) (asForm (now («sender_bytes» .entry)) (now (sender .entry)))
+        asBeginReply r (asFlat (now («sender_bytes» .exit)) (now (sender .exit)))
+        ≡ replyToBegin port start vle (now (password .entry)) (now (image .entry)) (asFlat (now («sender_bytes» .entry)) (now (sender .entry)))
         ⌝ }
 {
     c_load::begin(port, start, vle, password, image, sender_bytes, sender)
@@ -160,8 +160,8 @@ pub extern "C" fn boot_assist_flat_ask(
     item: &mut [u32],
 ) -> u8
     ensures { λ r. ⌜
-        asAskReply r (asForm (now («sender_bytes» .exit)) (now (sender .exit))) (asForm (now («item_bytes» .exit)) (now (item .exit)))
-        ≡ replyToAsk (asForm (now («sender_bytes» .entry)) (now (sender .entry))) (now (image .entry)) (asForm (now («item_bytes» .entry)) (now (item .entry)))
+        asAskReply r (asFlat (now («sender_bytes» .exit)) (now (sender .exit))) (asFlat (now («item_bytes» .exit)) (now (item .exit)))
+        ≡ replyToAsk (asFlat (now («sender_bytes» .entry)) (now (sender .entry))) (now (image .entry)) (asFlat (now («item_bytes» .entry)) (now (item .entry)))
         ⌝ }
 {
     c_load::ask(sender_bytes, sender, image, item_bytes, item)
@@ -179,8 +179,8 @@ pub extern "C" fn boot_assist_flat_tell(
     verdict: &mut u8,
 ) -> u8
     ensures { λ r. ⌜
-        asTellReply r (asForm (now («sender_bytes» .exit)) (now (sender .exit))) (now (verdict .exit))
-        ≡ replyToTell (asForm (now («sender_bytes» .entry)) (now (sender .entry))) (now (image .entry)) port identifier (now (bytes .entry)) (now (verdict .entry))
+        asTellReply r (asFlat (now («sender_bytes» .exit)) (now (sender .exit))) (now (verdict .exit))
+        ≡ replyToTell (asFlat (now («sender_bytes» .entry)) (now (sender .entry))) (now (image .entry)) port identifier (now (bytes .entry)) (now (verdict .entry))
         ⌝ }
 {
     c_load::tell(

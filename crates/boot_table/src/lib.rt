@@ -20,7 +20,7 @@ pub struct Row {
 pub const PUBLIC: [u8; 8] = [0xFE, 0xED, 0xFA, 0xCE, 0xCA, 0xFE, 0xBE, 0xEF];
 
 // What the column BOOTCFG of the table says.
-pub fn asked_by(bootcfg: u8) -> Asked
+pub fn asked_by(bootcfg: u32) -> Asked
     ensures { λ r. ⌜ r ≡ askedBy bootcfg ⌝ }
 {
     if bootcfg == 0 {

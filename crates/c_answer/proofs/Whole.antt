@@ -13,7 +13,7 @@ use Rattle.buffers.proofs.Lending.{fill-whole}
 use Rattle.session_configuration.specs.declared.Entered.{Entered}
 use Rattle.session_answers.specs.declared.Answer.{Answer}
 use Rattle.session_answers.specs.declared.Outcome.{Outcome}
-use Rattle.c_answer.specs.Writing.{asForm, enteredNumber, enteredOf, jumpNumbers, answerNumbers, echoWidth, answerWidth, answerPlaces, answerPut}
+use Rattle.c_answer.specs.Writing.{asFlat, enteredNumber, enteredOf, jumpNumbers, answerNumbers, echoWidth, answerWidth, answerPlaces, answerPut}
 
 pub entered-back : (entered : Entered) → enteredOf (enteredNumber entered) ≡ entered
 entered-back Entered.Directly = refl
@@ -42,8 +42,8 @@ pub answer-length : (answer : Answer) → length (answerNumbers answer) ≡ answ
 answer-length answer = rw (jump-length (answer .outcome))
 
 -- an answer's bytes and numbers fill their places
-pub fills : (answer : Answer) (bytes numbers : List ℕ) → length (answer .echo .bytes) ≡ 8 → answerPlaces (asForm bytes numbers) ≡ true
-    → asForm (filled (answer .echo .bytes) bytes) (filled (answerNumbers answer) numbers) ≡ answerPut answer (asForm bytes numbers)
+pub fills : (answer : Answer) (bytes numbers : List ℕ) → length (answer .echo .bytes) ≡ 8 → answerPlaces (asFlat bytes numbers) ≡ true
+    → asFlat (filled (answer .echo .bytes) bytes) (filled (answerNumbers answer) numbers) ≡ answerPut answer (asFlat bytes numbers)
 unfolding answerPut
 fills answer bytes numbers eight places =
     let both = and-eq-true-iff (eqb (length bytes) echoWidth) (eqb (length numbers) answerWidth) .0 places in

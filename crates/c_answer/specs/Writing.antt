@@ -11,12 +11,12 @@ use Rattle.session_answers.specs.declared.Outcome.{Outcome}
 use Rattle.session_answers.specs.Answers.{outcomeNumber}
 
 -- what crosses as bytes and as numbers
-pub record Form : Type 0 where
+pub record Flat : Type 0 where
   pub bytes : List ℕ
   pub numbers : List ℕ
 
-abbrev pub asForm : List ℕ → List ℕ → Form
-asForm bytes numbers = record { bytes = bytes; numbers = numbers }
+abbrev pub asFlat : List ℕ → List ℕ → Flat
+asFlat bytes numbers = record { bytes = bytes; numbers = numbers }
 
 -- a flag is 0 or 1
 abbrev pub bit : Bool → ℕ
@@ -48,8 +48,8 @@ answerNumbers answer =
 abbrev pub echoBytes : Answer → List ℕ
 echoBytes answer = firstEight (answer .echo .bytes)
 
-abbrev pub answerForm : Answer → Form
-answerForm answer = asForm (echoBytes answer) (answerNumbers answer)
+abbrev pub answerFlat : Answer → Flat
+answerFlat answer = asFlat (echoBytes answer) (answerNumbers answer)
 
 abbrev pub echoWidth : ℕ
 echoWidth = 8
@@ -57,9 +57,9 @@ echoWidth = 8
 abbrev pub answerWidth : ℕ
 answerWidth = 5
 
--- places for an answer; and an answer in its places, of which other ones keep what they hold
-abbrev pub answerPlaces : Form → Bool
+-- places for an answer; and an answer that is written: lists of other lengths are left as they are
+abbrev pub answerPlaces : Flat → Bool
 answerPlaces form = eqb (length (form .bytes)) echoWidth && eqb (length (form .numbers)) answerWidth
 
-unfoldable pub answerPut : Answer → Form → Form
-answerPut answer form = cond (answerPlaces form) (answerForm answer) form
+unfoldable pub answerPut : Answer → Flat → Flat
+answerPut answer form = cond (answerPlaces form) (answerFlat answer) form

@@ -1,6 +1,6 @@
-// Answers, and what else crosses the C interface, as numbers (include/boot_assist.h).
+// Answers, and what else crosses the C interface, as bytes and numbers (include/boot_assist.h).
 ghost use mathlib.Core.Path.{_≡_};
-ghost use Rattle.c_answer.specs.Writing.{bit, enteredNumber, enteredOf, asForm, jumpNumbers, answerNumbers, answerPlaces, answerPut};
+ghost use Rattle.c_answer.specs.Writing.{bit, enteredNumber, enteredOf, asFlat, jumpNumbers, answerNumbers, answerPlaces, answerPut};
 use session_answers::Answer;
 use session_answers::Outcome;
 use session_configuration::Entered;
@@ -80,7 +80,7 @@ fn answer_numbers(answer: Answer) -> [u32; ANSWER_WIDTH]
 
 // Whether there are places for an answer.
 pub fn has_places(echo: &[u8], answer: &[u32]) -> bool
-    ensures { λ r. ⌜ r ≡ answerPlaces (asForm (now (echo .entry)) (now (answer .entry))) ⌝ }
+    ensures { λ r. ⌜ r ≡ answerPlaces (asFlat (now (echo .entry)) (now (answer .entry))) ⌝ }
 {
     (echo.len() == ECHO_WIDTH) & (answer.len() == ANSWER_WIDTH)
 }
@@ -88,8 +88,8 @@ pub fn has_places(echo: &[u8], answer: &[u32]) -> bool
 // Writes an answer, where there are places for it.
 pub fn put_answer(echo: &mut [u8], answer: &mut [u32], given: Answer)
     ensures { λ _. ⌜
-        asForm (now (echo .exit)) (now (answer .exit))
-        ≡ answerPut given (asForm (now (echo .entry)) (now (answer .entry)))
+        asFlat (now (echo .exit)) (now (answer .exit))
+        ≡ answerPut given (asFlat (now (echo .entry)) (now (answer .entry)))
         ⌝ }
 {
     if has_places(echo, answer) {

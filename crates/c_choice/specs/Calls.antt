@@ -11,8 +11,8 @@ use Rattle.boot.specs.declared.Choice.{Choice}
 use Rattle.boot.specs.Choosing.{bootChoice, choiceNumber}
 use Rattle.session_fresh.specs.declared.Start.{Start}
 use Rattle.session_fresh.specs.Fresh.{freshIn}
-use Rattle.c_answer.specs.Writing.{Form}
-use Rattle.c_session.specs.Writing.{sessionForm, sessionPlaces}
+use Rattle.c_answer.specs.Writing.{Flat}
+use Rattle.c_session.specs.Writing.{sessionFlat, sessionPlaces}
 use Rattle.c_choice.specs.Numbers.{modeOf, bootNumbers}
 
 -- the choice as C sees it: its number, and the outputs as the call leaves them
@@ -48,18 +48,18 @@ choiceAnswer bootcfg flash shadow external fields password =
 -- a fresh session: its number, and the session
 pub record FreshReply : Type 0 where
   pub number : ℕ
-  pub session : Form
+  pub session : Flat
 
-abbrev pub asFreshReply : ℕ → Form → FreshReply
+abbrev pub asFreshReply : ℕ → Flat → FreshReply
 asFreshReply number session = record { number = number; session = session }
 
 -- what a fresh session leaves: only serial boot gives one
-abbrev pub freshLeaves : Start → Form → FreshReply
+abbrev pub freshLeaves : Start → Flat → FreshReply
 freshLeaves start session =
-    cond (start .serial) (asFreshReply 0 (sessionForm (start .session))) (asFreshReply 9 session)
+    cond (start .serial) (asFreshReply 0 (sessionFlat (start .session))) (asFreshReply 9 session)
 
 -- for the number of a way to boot; 9 for a number that no way has, a password of another length than 8, or a session that has not its places
-unfoldable pub sessionReply : ℕ → List ℕ → Form → FreshReply
+unfoldable pub sessionReply : ℕ → List ℕ → Flat → FreshReply
 sessionReply mode password session =
     cond (leb mode 4 && eqb (length password) 8 && sessionPlaces session)
     (freshLeaves (freshIn (modeOf mode) (firstEight password)) session)

@@ -1,7 +1,7 @@
-// The boot choice, and the session that it gives, on numbers and lent outputs, as the C interface has them (include/boot_assist.h).
+// The boot choice, and the session that it gives, on bytes, numbers and lent outputs, as the C interface has them (include/boot_assist.h).
 ghost use mathlib.Core.Path.{_≡_};
 ghost use lib.ListN.{length};
-ghost use Rattle.c_answer.specs.Writing.{asForm};
+ghost use Rattle.c_answer.specs.Writing.{asFlat};
 ghost use Rattle.c_choice.specs.Numbers.{modeNumber, modeOf, bootNumbers};
 ghost use Rattle.c_choice.specs.Calls.{asChoiceReply, choiceLeaves, choiceAnswer, asFreshReply, sessionReply};
 use boot::Answer;
@@ -66,7 +66,7 @@ fn put_choice(fields: &mut [u32], password: &mut [u8], choice: Choice) -> u8
 
 // The boot choice: writes its 8 numbers and the 8 bytes of the password selected, and returns number 0; or returns number 9.
 pub fn choose(
-    bootcfg: u8,
+    bootcfg: u32,
     flash: &[u8],
     shadow: &[u8],
     external: &[u8],
@@ -93,8 +93,8 @@ pub fn choose(
 // A fresh session, from the number of a way to boot and the password selected.
 pub fn fresh(mode: u32, password: &[u8], session_bytes: &mut [u8], session: &mut [u32]) -> u8
     ensures { λ r. ⌜
-        asFreshReply r (asForm (now («session_bytes» .exit)) (now (session .exit)))
-        ≡ sessionReply mode (now (password .entry)) (asForm (now («session_bytes» .entry)) (now (session .entry)))
+        asFreshReply r (asFlat (now («session_bytes» .exit)) (now (session .exit)))
+        ≡ sessionReply mode (now (password .entry)) (asFlat (now («session_bytes» .entry)) (now (session .entry)))
         ⌝ }
 {
     if 4 < mode {

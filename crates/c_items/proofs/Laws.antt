@@ -19,8 +19,8 @@ use Rattle.session_answers.specs.Answers.{Result, resultOf, faultNumber, outcom
 use Rattle.session_answers.proofs.Laws.{precheck-passed, fault-some}
 use Rattle.session.specs.Rules.{step}
 use Rattle.session.proofs.Answered.{IsAnswer, answered, refused}
-use Rattle.c_answer.specs.Writing.{Form, asForm, answerPlaces, answerPut}
-use Rattle.c_session.specs.Writing.{sessionForm, sessionPut}
+use Rattle.c_answer.specs.Writing.{Flat, asFlat, answerPlaces, answerPut}
+use Rattle.c_session.specs.Writing.{sessionFlat, sessionPut}
 use Rattle.c_session.specs.Reading.{sessionIn, Written}
 use Rattle.c_session.proofs.Lengths.{sound-written}
 use Rattle.c_items.specs.Calls.{asReply, precheckNumber, itemPrecheck, leaves, itemReply, ItemClaim}
@@ -43,57 +43,57 @@ some-due session sram formed e = by (precheck session sram formed) e
     by Prechecked.Passed e = omega arith
     by (Prechecked.Refused fault) e = fault-some fault e
 
-module _ (bytes numbers sram : List ℕ) (item : Item) (answer : Form) where
+module _ (bytes numbers sram : List ℕ) (item : Item) (answer : Flat) where
   pub unplaced : (number : ℕ) → answerPlaces answer ≡ false
-      → number ≡ itemPrecheck (sessionIn (asForm bytes numbers)) sram (wellFormed item) false
-      → ItemClaim (asForm bytes numbers) sram item answer (asReply number (asForm bytes numbers) sram answer)
+      → number ≡ itemPrecheck (sessionIn (asFlat bytes numbers)) sram (wellFormed item) false
+      → ItemClaim (asFlat bytes numbers) sram item answer (asReply number (asFlat bytes numbers) sram answer)
   unfolding itemReply
   unplaced number none e =
-      let some = ne-eqb (itemPrecheck (sessionIn (asForm bytes numbers)) sram (wellFormed item) false) 0 (some-due (sessionIn (asForm bytes numbers)) sram (wellFormed item)) in
+      let some = ne-eqb (itemPrecheck (sessionIn (asFlat bytes numbers)) sram (wellFormed item) false) 0 (some-due (sessionIn (asFlat bytes numbers)) sram (wellFormed item)) in
       record {
         equation = rw (none, some, e);
         reads-back = λ there. absurd (true≢false (sym there ∙ none));
       }
 
   -- the item's step, and what is written of it
-  module _ (result : StepResult) (after : List ℕ) (there : answerPlaces answer ≡ true) (e : resultOf result after ≡ step (sessionIn (asForm bytes numbers)) sram item) where
-    same-outcome : result .answer .outcome ≡ step (sessionIn (asForm bytes numbers)) sram item .answer .outcome
+  module _ (result : StepResult) (after : List ℕ) (there : answerPlaces answer ≡ true) (e : resultOf result after ≡ step (sessionIn (asFlat bytes numbers)) sram item) where
+    same-outcome : result .answer .outcome ≡ step (sessionIn (asFlat bytes numbers)) sram item .answer .outcome
     same-outcome = ap (λ (r : Result). r .answer .outcome) e
 
     pub refused-claim : (fault : Fault) → result .answer .outcome ≡ Outcome.Refused fault
-        → ItemClaim (asForm bytes numbers) sram item answer (asReply (outcomeNumber (result .answer .outcome)) (asForm bytes numbers) after answer)
+        → ItemClaim (asFlat bytes numbers) sram item answer (asReply (outcomeNumber (result .answer .outcome)) (asFlat bytes numbers) after answer)
     unfolding itemReply itemPrecheck
-    refused-claim fault is = by (precheck (sessionIn (asForm bytes numbers)) sram (wellFormed item)) refl
+    refused-claim fault is = by (precheck (sessionIn (asFlat bytes numbers)) sram (wellFormed item)) refl
       where
-        by : (first : Prechecked) → precheck (sessionIn (asForm bytes numbers)) sram (wellFormed item) ≡ first
-            → ItemClaim (asForm bytes numbers) sram item answer (asReply (outcomeNumber (result .answer .outcome)) (asForm bytes numbers) after answer)
+        by : (first : Prechecked) → precheck (sessionIn (asFlat bytes numbers)) sram (wellFormed item) ≡ first
+            → ItemClaim (asFlat bytes numbers) sram item answer (asReply (outcomeNumber (result .answer .outcome)) (asFlat bytes numbers) after answer)
         by Prechecked.Passed f =
-            absurd (rw (← same-outcome, is) at (answered (sessionIn (asForm bytes numbers)) sram item f))
+            absurd (rw (← same-outcome, is) at (answered (sessionIn (asFlat bytes numbers)) sram item f))
         by (Prechecked.Refused due) f =
-            let next = e ∙ refused (sessionIn (asForm bytes numbers)) sram item due f in
+            let next = e ∙ refused (sessionIn (asFlat bytes numbers)) sram item due f in
             record {
               equation =
                   rw (f, ne-eqb (faultNumber due) 0 (fault-some due))
-                  (ap (λ (r : Result). asReply (r .number) (asForm bytes numbers) (r .sram) answer) next);
-              reads-back = λ placed. sym (ap (λ (r : Result). r .session) (refused (sessionIn (asForm bytes numbers)) sram item due f));
+                  (ap (λ (r : Result). asReply (r .number) (asFlat bytes numbers) (r .sram) answer) next);
+              reads-back = λ placed. sym (ap (λ (r : Result). r .session) (refused (sessionIn (asFlat bytes numbers)) sram item due f));
             }
 
-    pub answered-claim : (session written : Form) → IsAnswer (result .answer .outcome)
-        → Written (result .session) (asForm bytes numbers) session
+    pub answered-claim : (session written : Flat) → IsAnswer (result .answer .outcome)
+        → Written (result .session) (asFlat bytes numbers) session
         → written ≡ answerPut (result .answer) answer
-        → ItemClaim (asForm bytes numbers) sram item answer (asReply (outcomeNumber (result .answer .outcome)) session after written)
+        → ItemClaim (asFlat bytes numbers) sram item answer (asReply (outcomeNumber (result .answer .outcome)) session after written)
     unfolding itemReply itemPrecheck sessionPut answerPut
-    answered-claim session written is put said = by (precheck (sessionIn (asForm bytes numbers)) sram (wellFormed item)) refl
+    answered-claim session written is put said = by (precheck (sessionIn (asFlat bytes numbers)) sram (wellFormed item)) refl
       where
-        by : (first : Prechecked) → precheck (sessionIn (asForm bytes numbers)) sram (wellFormed item) ≡ first
-            → ItemClaim (asForm bytes numbers) sram item answer (asReply (outcomeNumber (result .answer .outcome)) session after written)
+        by : (first : Prechecked) → precheck (sessionIn (asFlat bytes numbers)) sram (wellFormed item) ≡ first
+            → ItemClaim (asFlat bytes numbers) sram item answer (asReply (outcomeNumber (result .answer .outcome)) session after written)
         by Prechecked.Passed f =
-            let ok = precheck-passed (sessionIn (asForm bytes numbers)) sram (wellFormed item) f .0 in
+            let ok = precheck-passed (sessionIn (asFlat bytes numbers)) sram (wellFormed item) f .0 in
             let placed = sound-written bytes numbers (ok .fine) .placed in
-            let left : session ≡ sessionForm (result .session) = put .equation ∙ rw placed in
+            let left : session ≡ sessionFlat (result .session) = put .equation ∙ rw placed in
             record {
               equation = rw (f, there, left, said, there) (ap leaves e);
               reads-back = λ placed. rw left (put .reads-back ∙ ap (λ (r : Result). r .session) e);
             }
         by (Prechecked.Refused due) f =
-            absurd (rw (same-outcome, refused (sessionIn (asForm bytes numbers)) sram item due f) at is)
+            absurd (rw (same-outcome, refused (sessionIn (asFlat bytes numbers)) sram item due f) at is)

@@ -3,7 +3,7 @@ ghost use mathlib.Core.Path.{_≡_};
 ghost use mathlib.Core.List.{[], _∷_};
 ghost use Rattle.session_items.specs.declared.Source.{Source};
 ghost use Rattle.session_items.specs.Items.{Item};
-ghost use Rattle.c_answer.specs.Writing.{asForm};
+ghost use Rattle.c_answer.specs.Writing.{asFlat};
 ghost use Rattle.c_items.specs.Calls.{asReply, itemPrecheck, ItemClaim};
 use session_answers::Outcome;
 use session_answers::Prechecked;
@@ -35,8 +35,8 @@ pub fn item(
     answer: &mut [u32],
 ) -> u8
     ensures { λ r. ⌜
-        ItemClaim (asForm (now («session_bytes» .entry)) (now (session .entry))) (now (sram .entry)) (Item.Of source (now (bytes .entry))) (asForm (now (echo .entry)) (now (answer .entry)))
-        (asReply r (asForm (now («session_bytes» .exit)) (now (session .exit))) (now (sram .exit)) (asForm (now (echo .exit)) (now (answer .exit))))
+        ItemClaim (asFlat (now («session_bytes» .entry)) (now (session .entry))) (now (sram .entry)) (Item.Of source (now (bytes .entry))) (asFlat (now (echo .entry)) (now (answer .entry)))
+        (asReply r (asFlat (now («session_bytes» .exit)) (now (session .exit))) (now (sram .exit)) (asFlat (now (echo .exit)) (now (answer .exit))))
         ⌝ }
 {
     let read = c_session::read_session(session_bytes, session);
@@ -67,8 +67,8 @@ pub fn frame(
     answer: &mut [u32],
 ) -> u8
     ensures { λ r. ⌜
-        ItemClaim (asForm (now («session_bytes» .entry)) (now (session .entry))) (now (sram .entry)) (Item.Of (Source.Can identifier) (now («data» .entry))) (asForm (now (echo .entry)) (now (answer .entry)))
-        (asReply r (asForm (now («session_bytes» .exit)) (now (session .exit))) (now (sram .exit)) (asForm (now (echo .exit)) (now (answer .exit))))
+        ItemClaim (asFlat (now («session_bytes» .entry)) (now (session .entry))) (now (sram .entry)) (Item.Of (Source.Can identifier) (now («data» .entry))) (asFlat (now (echo .entry)) (now (answer .entry)))
+        (asReply r (asFlat (now («session_bytes» .exit)) (now (session .exit))) (now (sram .exit)) (asFlat (now (echo .exit)) (now (answer .exit))))
         ⌝ }
 {
     item(
@@ -88,13 +88,13 @@ pub fn byte(
     session: &mut [u32],
     sram: &mut [u8],
     value: u8,
-    mark: u8,
+    mark: u32,
     echo: &mut [u8],
     answer: &mut [u32],
 ) -> u8
     ensures { λ r. ⌜
-        ItemClaim (asForm (now («session_bytes» .entry)) (now (session .entry))) (now (sram .entry)) (Item.Of (Source.Serial mark) (value ∷ [])) (asForm (now (echo .entry)) (now (answer .entry)))
-        (asReply r (asForm (now («session_bytes» .exit)) (now (session .exit))) (now (sram .exit)) (asForm (now (echo .exit)) (now (answer .exit))))
+        ItemClaim (asFlat (now («session_bytes» .entry)) (now (session .entry))) (now (sram .entry)) (Item.Of (Source.Serial mark) (value ∷ [])) (asFlat (now (echo .entry)) (now (answer .entry)))
+        (asReply r (asFlat (now («session_bytes» .exit)) (now (session .exit))) (now (sram .exit)) (asFlat (now (echo .exit)) (now (answer .exit))))
         ⌝ }
 {
     let bytes = [value];
@@ -102,7 +102,7 @@ pub fn byte(
         session_bytes,
         session,
         sram,
-        Source::Serial(mark as u32),
+        Source::Serial(mark),
         &bytes[..],
         echo,
         answer,

@@ -13,7 +13,7 @@ use Rattle.session_answers.proofs.Laws.{precheck-passed, fault-some}
 use Rattle.session_fresh.specs.Fresh.{freshSession}
 use Rattle.session.specs.Running.{ran}
 use Rattle.session_merging.proofs.Stream.{demand-three}
-use Rattle.c_answer.specs.Writing.{Form}
+use Rattle.c_answer.specs.Writing.{Flat}
 use Rattle.c_session.specs.Reading.{sessionIn}
 use Rattle.c_session.proofs.Lengths.{password-eight}
 use Rattle.c_items.specs.Calls.{Reply, asReply, precheckNumber, itemPrecheck}
@@ -29,7 +29,7 @@ passes session sram formed e = by (precheck session sram formed) e
     by Prechecked.Passed e = refl
     by (Prechecked.Refused fault) e = absurd (fault-some fault e)
 
-module _ (session : Form) (sram kinds identifiers counts bytes : List ℕ) (answers : Form) where
+module _ (session : Flat) (sram kinds identifiers counts bytes : List ℕ) (answers : Flat) where
   -- a list for which something is due
   pub refused-list : (number : ℕ) → number ≡ itemPrecheck (sessionIn session) sram (listFits kinds identifiers counts (length bytes) (length (answers .bytes)) (length (answers .numbers))) true → (number ≡ 0 → ⊥)
       → ListClaim session sram kinds identifiers counts bytes answers (asReply number session sram answers)

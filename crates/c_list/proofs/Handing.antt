@@ -20,9 +20,9 @@ use Rattle.session_answers.proofs.Laws.{Accepted, precheck-passed}
 use Rattle.session.specs.Rules.{step}
 use Rattle.session.specs.Running.{ran}
 use Rattle.session.proofs.Answered.{accepted}
-use Rattle.c_answer.specs.Writing.{Form, asForm, echoWidth, answerWidth, echoBytes, answerNumbers}
+use Rattle.c_answer.specs.Writing.{Flat, asFlat, echoWidth, answerWidth, echoBytes, answerNumbers}
 use Rattle.c_answer.proofs.Whole.{answer-length}
-use Rattle.c_session.specs.Writing.{sessionForm}
+use Rattle.c_session.specs.Writing.{sessionFlat}
 use Rattle.c_session.specs.Reading.{sessionIn}
 use Rattle.c_session.proofs.Lengths.{sound-written}
 use Rattle.c_items.specs.Calls.{asReply}
@@ -85,25 +85,25 @@ module _ (bytes₀ numbers₀ sram₀ kinds identifiers counts bytes echoes₀ a
     pub ids-each : length identifiers ≡ length kinds
     pub echo-room : length echoes ≡ echoWidth * length kinds
     pub room : length answers ≡ answerWidth * length kinds
-    pub ok : Accepted (sessionIn (asForm held numbers)) sram
+    pub ok : Accepted (sessionIn (asFlat held numbers)) sram
     pub fits : partsFit (drop i kinds) (drop i counts) (length bytes - at) ≡ true
-    pub sessions : ran (sessionIn (asForm bytes₀ numbers₀)) sram₀ (itemsOf kinds identifiers counts bytes) .session
-        ≡ ran (sessionIn (asForm held numbers)) sram (itemsOf (drop i kinds) (drop i identifiers) (drop i counts) (drop at bytes)) .session
-    pub srams : ran (sessionIn (asForm bytes₀ numbers₀)) sram₀ (itemsOf kinds identifiers counts bytes) .sram
-        ≡ ran (sessionIn (asForm held numbers)) sram (itemsOf (drop i kinds) (drop i identifiers) (drop i counts) (drop at bytes)) .sram
-    pub echo-rows : rowsOf echoBytes (ran (sessionIn (asForm bytes₀ numbers₀)) sram₀ (itemsOf kinds identifiers counts bytes) .calls)
+    pub sessions : ran (sessionIn (asFlat bytes₀ numbers₀)) sram₀ (itemsOf kinds identifiers counts bytes) .session
+        ≡ ran (sessionIn (asFlat held numbers)) sram (itemsOf (drop i kinds) (drop i identifiers) (drop i counts) (drop at bytes)) .session
+    pub srams : ran (sessionIn (asFlat bytes₀ numbers₀)) sram₀ (itemsOf kinds identifiers counts bytes) .sram
+        ≡ ran (sessionIn (asFlat held numbers)) sram (itemsOf (drop i kinds) (drop i identifiers) (drop i counts) (drop at bytes)) .sram
+    pub echo-rows : rowsOf echoBytes (ran (sessionIn (asFlat bytes₀ numbers₀)) sram₀ (itemsOf kinds identifiers counts bytes) .calls)
         ≡ take (echoWidth * i) echoes
-        ++ rowsOf echoBytes (ran (sessionIn (asForm held numbers)) sram (itemsOf (drop i kinds) (drop i identifiers) (drop i counts) (drop at bytes)) .calls)
-    pub rows : rowsOf answerNumbers (ran (sessionIn (asForm bytes₀ numbers₀)) sram₀ (itemsOf kinds identifiers counts bytes) .calls)
+        ++ rowsOf echoBytes (ran (sessionIn (asFlat held numbers)) sram (itemsOf (drop i kinds) (drop i identifiers) (drop i counts) (drop at bytes)) .calls)
+    pub rows : rowsOf answerNumbers (ran (sessionIn (asFlat bytes₀ numbers₀)) sram₀ (itemsOf kinds identifiers counts bytes) .calls)
         ≡ take (answerWidth * i) answers
-        ++ rowsOf answerNumbers (ran (sessionIn (asForm held numbers)) sram (itemsOf (drop i kinds) (drop i identifiers) (drop i counts) (drop at bytes)) .calls)
+        ++ rowsOf answerNumbers (ran (sessionIn (asFlat held numbers)) sram (itemsOf (drop i kinds) (drop i identifiers) (drop i counts) (drop at bytes)) .calls)
     pub same-held : length held ≡ length bytes₀
     pub same-numbers : length numbers ≡ length numbers₀
     pub same-sram : length sram ≡ length sram₀
     pub same-echoes : length echoes ≡ length echoes₀
     pub same-answers : length answers ≡ length answers₀
 
-  pub begun : precheck (sessionIn (asForm bytes₀ numbers₀)) sram₀ (listFits kinds identifiers counts (length bytes) (length echoes₀) (length answers₀)) ≡ Prechecked.Passed
+  pub begun : precheck (sessionIn (asFlat bytes₀ numbers₀)) sram₀ (listFits kinds identifiers counts (length bytes) (length echoes₀) (length answers₀)) ≡ Prechecked.Passed
       → Under bytes₀ numbers₀ sram₀ echoes₀ answers₀ 0 0
   begun passed =
       let n = length kinds in
@@ -112,7 +112,7 @@ module _ (bytes₀ numbers₀ sram₀ kinds identifiers counts bytes echoes₀ a
       let c = eqb (length echoes₀) (echoWidth * n) in
       let d = eqb (length answers₀) (answerWidth * n) in
       let p = partsFit kinds counts (length bytes) in
-      let all = precheck-passed (sessionIn (asForm bytes₀ numbers₀)) sram₀ (a && b && c && d && p) passed in
+      let all = precheck-passed (sessionIn (asFlat bytes₀ numbers₀)) sram₀ (a && b && c && d && p) passed in
       let h = and-eq-true-iff (a && b && c && d) p .0 (all .1) in
       let j = and-eq-true-iff (a && b && c) d .0 (h .0) in
       let k = and-eq-true-iff (a && b) c .0 (j .0) in
@@ -151,8 +151,8 @@ module _ (bytes₀ numbers₀ sram₀ kinds identifiers counts bytes echoes₀ a
 
     -- one more item
     pub turn : (held′ numbers′ sram′ echoes′ answers′ : List ℕ) → i < length kinds
-        → Handed (step (sessionIn (asForm held numbers)) sram (Item.Of (sourceOf (getD kinds i 0) (getD identifiers i 0)) (take (getD counts i 0) (drop at bytes))))
-        i (asForm echoes answers) (sessionIn (asForm held′ numbers′)) sram′ (asForm echoes′ answers′)
+        → Handed (step (sessionIn (asFlat held numbers)) sram (Item.Of (sourceOf (getD kinds i 0) (getD identifiers i 0)) (take (getD counts i 0) (drop at bytes))))
+        i (asFlat echoes answers) (sessionIn (asFlat held′ numbers′)) sram′ (asFlat echoes′ answers′)
         → length held′ ≡ length held
         → length numbers′ ≡ length numbers
         → length sram′ ≡ length sram
@@ -167,11 +167,11 @@ module _ (bytes₀ numbers₀ sram₀ kinds identifiers counts bytes echoes₀ a
         let there = part-there h in
         let left : length bytes - (at + count) ≡ length bytes - at - count = omega arith in
         let item = Item.Of (sourceOf (getD kinds i 0) (getD identifiers i 0)) (take count (drop at bytes)) in
-        let after = step (sessionIn (asForm held numbers)) sram item in
+        let after = step (sessionIn (asFlat held numbers)) sram item in
         let answer = after .answer in
         let later = ran (after .session) (after .sram) (itemsOf (drop (i + 1) kinds) (drop (i + 1) identifiers) (drop (i + 1) counts) (drop (at + count) bytes)) .calls in
-        let echoed : echoes′ ≡ overFrom (echoWidth * i) (echoBytes answer) echoes = ap (λ (f : Form). f .bytes) (handed .answer-is) in
-        let said : answers′ ≡ overFrom (answerWidth * i) (answerNumbers answer) answers = ap (λ (f : Form). f .numbers) (handed .answer-is) in
+        let echoed : echoes′ ≡ overFrom (echoWidth * i) (echoBytes answer) echoes = ap (λ (f : Flat). f .bytes) (handed .answer-is) in
+        let said : answers′ ≡ overFrom (answerWidth * i) (answerNumbers answer) answers = ap (λ (f : Flat). f .numbers) (handed .answer-is) in
         let e-seam : echoWidth * (i + 1) ≡ echoWidth * i + echoWidth = omega arith in
         let a-seam : answerWidth * (i + 1) ≡ answerWidth * i + answerWidth = omega arith in
         let e-room : echoWidth * (i + 1) ≤ length echoes = omega (arith, u .echo-room) in
@@ -190,7 +190,7 @@ module _ (bytes₀ numbers₀ sram₀ kinds identifiers counts bytes echoes₀ a
           ids-each = u .ids-each;
           echo-room = e-length ∙ u .echo-room;
           room = a-length ∙ u .room;
-          ok = rw (handed .session-is, handed .sram-is) (accepted (sessionIn (asForm held numbers)) sram item (u .ok));
+          ok = rw (handed .session-is, handed .sram-is) (accepted (sessionIn (asFlat held numbers)) sram item (u .ok));
           fits = rw left (and-eq-true-iff (k && c) p .0 all .1);
           sessions = u .sessions ∙ rw (next, handed .session-is, handed .sram-is);
           srams = u .srams ∙ rw (next, handed .session-is, handed .sram-is);
@@ -205,17 +205,17 @@ module _ (bytes₀ numbers₀ sram₀ kinds identifiers counts bytes echoes₀ a
 
     -- all items
     pub ended : length kinds ≤ i
-        → asReply 0 (asForm held numbers) sram (asForm echoes answers)
-        ≡ listRan (ran (sessionIn (asForm bytes₀ numbers₀)) sram₀ (itemsOf kinds identifiers counts bytes))
+        → asReply 0 (asFlat held numbers) sram (asFlat echoes answers)
+        ≡ listRan (ran (sessionIn (asFlat bytes₀ numbers₀)) sram₀ (itemsOf kinds identifiers counts bytes))
     unfolding ran rowsOf itemsOf
     ended h =
         let last : i ≡ length kinds = omega (arith, u .reached) in
         let none-left : drop i kinds ≡ [] = drop-of-length-le kinds {i = i} (omega arith) in
         let e-full : take (echoWidth * i) echoes ≡ echoes = take-all (echoWidth * i) echoes (omega (arith, u .echo-room)) in
         let a-full : take (answerWidth * i) answers ≡ answers = take-all (answerWidth * i) answers (omega (arith, u .room)) in
-        let session = sessionIn (asForm held numbers) in
+        let session = sessionIn (asFlat held numbers) in
         let rest = itemsOf (drop i kinds) (drop i identifiers) (drop i counts) (drop at bytes) in
         let nothing : rest ≡ [] = rw none-left in
         let written = sound-written held numbers (u .ok .fine) .same-form in
-        let none-ran : (r : List Item) → r ≡ [] → asReply 0 (sessionForm (ran session sram r .session)) (ran session sram r .sram) (asForm (echoes ++ rowsOf echoBytes (ran session sram r .calls)) (answers ++ rowsOf answerNumbers (ran session sram r .calls))) ≡ asReply 0 (asForm held numbers) sram (asForm echoes answers) = λ r e. rw (e, append-nil echoes, append-nil answers, written) in
+        let none-ran : (r : List Item) → r ≡ [] → asReply 0 (sessionFlat (ran session sram r .session)) (ran session sram r .sram) (asFlat (echoes ++ rowsOf echoBytes (ran session sram r .calls)) (answers ++ rowsOf answerNumbers (ran session sram r .calls))) ≡ asReply 0 (asFlat held numbers) sram (asFlat echoes answers) = λ r e. rw (e, append-nil echoes, append-nil answers, written) in
         rw (u .sessions, u .srams, u .echo-rows, u .rows, e-full, a-full) (sym (none-ran rest nothing))

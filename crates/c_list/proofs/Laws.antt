@@ -19,7 +19,7 @@ use Rattle.session_answers.specs.Answers.{Result, outcomeNumber, precheck, with
 use Rattle.session_answers.proofs.Laws.{precheck-passed}
 use Rattle.session.specs.Rules.{step}
 use Rattle.session.proofs.Answered.{IsAnswer, answered, refused, step-number}
-use Rattle.c_answer.specs.Writing.{Form, asForm, echoWidth, answerWidth, echoBytes, answerNumbers, answerForm, answerPlaces}
+use Rattle.c_answer.specs.Writing.{Flat, asFlat, echoWidth, answerWidth, echoBytes, answerNumbers, answerFlat, answerPlaces}
 use Rattle.c_answer.proofs.Whole.{answer-length}
 use Rattle.c_session.specs.Reading.{sessionIn}
 use Rattle.c_items.specs.Calls.{Reply, asReply, itemPrecheck, leaves, itemReply, ItemClaim}
@@ -32,9 +32,9 @@ echoPart i echoes = midOf (echoWidth * i) (echoWidth * i + echoWidth - echoWidth
 abbrev pub answerPart : ℕ → List ℕ → List ℕ
 answerPart i answers = midOf (answerWidth * i) (answerWidth * i + answerWidth - answerWidth * i) answers
 
-abbrev pub putParts : ℕ → List ℕ → List ℕ → Form → Form
+abbrev pub putParts : ℕ → List ℕ → List ℕ → Flat → Flat
 putParts i echoes answers part =
-    asForm (putMid (echoWidth * i) (echoWidth * i + echoWidth - echoWidth * i) echoes (part .bytes))
+    asFlat (putMid (echoWidth * i) (echoWidth * i + echoWidth - echoWidth * i) echoes (part .bytes))
     (putMid (answerWidth * i) (answerWidth * i + answerWidth - answerWidth * i) answers (part .numbers))
 
 part-over : (at width : ℕ) (row rows : List ℕ) → length row ≡ width → putMid at (at + width - at) rows row ≡ overFrom at row rows
@@ -43,21 +43,21 @@ part-over at width row rows e =
     rw (same, drop-drop width at rows, e, append-assoc)
 
 module _ (i : ℕ) (echoes answers : List ℕ) (e : echoWidth * i + echoWidth ≤ length echoes) (a : answerWidth * i + answerWidth ≤ length answers) where
-  pub parts-placed : answerPlaces (asForm (echoPart i echoes) (answerPart i answers)) ≡ true
+  pub parts-placed : answerPlaces (asFlat (echoPart i echoes) (answerPart i answers)) ≡ true
   parts-placed =
       let many = mid-len (echoWidth * i) (echoWidth * i + echoWidth) echoes e in
       let many-2 = mid-len (answerWidth * i) (answerWidth * i + answerWidth) answers a in
       rw (eq-eqb (length (echoPart i echoes)) echoWidth (many ∙ omega arith), eq-eqb (length (answerPart i answers)) answerWidth (many-2 ∙ omega arith))
 
   -- an answer that was put there
-  pub parts-answered : (answer : Answer) → putParts i echoes answers (answerForm answer) ≡ answerAt i answer (asForm echoes answers)
+  pub parts-answered : (answer : Answer) → putParts i echoes answers (answerFlat answer) ≡ answerAt i answer (asFlat echoes answers)
   parts-answered answer =
-      λ k. asForm (part-over (echoWidth * i) echoWidth (echoBytes answer) echoes refl k)
+      λ k. asFlat (part-over (echoWidth * i) echoWidth (echoBytes answer) echoes refl k)
       (part-over (answerWidth * i) answerWidth (answerNumbers answer) answers (answer-length answer) k)
 
   -- and parts that were left as they were
-  pub parts-kept : putParts i echoes answers (asForm (echoPart i echoes) (answerPart i answers)) ≡ asForm echoes answers
-  parts-kept = λ k. asForm (put-same (echoWidth * i) (echoWidth * i + echoWidth - echoWidth * i) echoes k) (put-same (answerWidth * i) (answerWidth * i + answerWidth - answerWidth * i) answers k)
+  pub parts-kept : putParts i echoes answers (asFlat (echoPart i echoes) (answerPart i answers)) ≡ asFlat echoes answers
+  parts-kept = λ k. asFlat (put-same (echoWidth * i) (echoWidth * i + echoWidth - echoWidth * i) echoes k) (put-same (answerWidth * i) (answerWidth * i + answerWidth - answerWidth * i) answers k)
 
 -- an answer of the rules is not 6
 not-six : (outcome : Outcome) → IsAnswer outcome → outcomeNumber outcome ≡ 6 → ⊥
@@ -71,11 +71,11 @@ not-six (Outcome.Jumps jump) is e = omega arith
 not-six (Outcome.Refused fault) is e = absurd is
 
 -- what 6 says, and what another number does
-pub record Six (session : Form) (sram : List ℕ) (item : Item) (answer : Form) (reply : Reply) : Type 0 where
+pub record Six (session : Flat) (sram : List ℕ) (item : Item) (answer : Flat) (reply : Reply) : Type 0 where
   pub reply-is : reply ≡ asReply 6 session sram answer
   pub step-is : step (sessionIn session) sram item ≡ unchanged (Outcome.Refused Fault.Form) (sessionIn session) sram
 
-module _ (session : Form) (sram : List ℕ) (item : Item) (answer : Form) (reply : Reply) (claim : ItemClaim session sram item answer reply)
+module _ (session : Flat) (sram : List ℕ) (item : Item) (answer : Flat) (reply : Reply) (claim : ItemClaim session sram item answer reply)
     (there : answerPlaces answer ≡ true) (passed : precheck (sessionIn session) sram true ≡ Prechecked.Passed) where
   formed : wellFormed item ≡ true → precheck (sessionIn session) sram (wellFormed item) ≡ Prechecked.Passed
   formed w = rw w passed

@@ -15,8 +15,8 @@ use Rattle.session_answers.specs.Answers.{Result}
 use Rattle.session_fresh.specs.Fresh.{freshSession}
 use Rattle.session.specs.Running.{Call, Run, ran}
 use Rattle.session_merging.specs.Merging.{Merging}
-use Rattle.c_answer.specs.Writing.{Form, asForm, echoWidth, answerWidth, echoBytes, answerNumbers}
-use Rattle.c_session.specs.Writing.{sessionForm}
+use Rattle.c_answer.specs.Writing.{Flat, asFlat, echoWidth, answerWidth, echoBytes, answerNumbers}
+use Rattle.c_session.specs.Writing.{sessionFlat}
 use Rattle.c_session.specs.Reading.{sessionIn}
 use Rattle.c_items.specs.Calls.{Reply, asReply, itemPrecheck}
 
@@ -49,31 +49,31 @@ unfoldable pub rowsOf : (Answer → List ℕ) → List Call → List ℕ
 rowsOf part [] = []
 rowsOf part (call ∷ calls) = part (call .answer) ++ rowsOf part calls
 
-abbrev pub answersForm : List Call → Form
-answersForm calls = asForm (rowsOf echoBytes calls) (rowsOf answerNumbers calls)
+abbrev pub answersFlat : List Call → Flat
+answersFlat calls = asFlat (rowsOf echoBytes calls) (rowsOf answerNumbers calls)
 
 -- the places of the answer to item i, with that answer
-abbrev pub answerAt : ℕ → Answer → Form → Form
+abbrev pub answerAt : ℕ → Answer → Flat → Flat
 answerAt i answer answers =
-    asForm (overFrom (echoWidth * i) (echoBytes answer) (answers .bytes))
+    asFlat (overFrom (echoWidth * i) (echoBytes answer) (answers .bytes))
     (overFrom (answerWidth * i) (answerNumbers answer) (answers .numbers))
 
 -- one item's step: what its session is read as, its SRAM, and its answer in its places
-pub record Handed (next : Result) (i : ℕ) (before : Form) (session : Session) (sram : List ℕ) (after : Form) : Type 0 where
+pub record Handed (next : Result) (i : ℕ) (before : Flat) (session : Session) (sram : List ℕ) (after : Flat) : Type 0 where
   pub session-is : session ≡ next .session
   pub sram-is : sram ≡ next .sram
   pub answer-is : after ≡ answerAt i (next .answer) before
 
 -- number 0: "another call answered"
 abbrev pub listRan : Run → Reply
-listRan run = asReply 0 (sessionForm (run .session)) (run .sram) (answersForm (run .calls))
+listRan run = asReply 0 (sessionFlat (run .session)) (run .sram) (answersFlat (run .calls))
 
 -- 7, then 8, then 6 for lists that do not fit each other; a refused call changes nothing
-abbrev pub listLeaves : ℕ → Form → List ℕ → List Item → Form → Reply
+abbrev pub listLeaves : ℕ → Flat → List ℕ → List Item → Flat → Reply
 listLeaves first session sram items answers =
     cond (eqb first 0) (listRan (ran (sessionIn session) sram items)) (asReply first session sram answers)
 
-unfoldable pub listReply : Form → List ℕ → List ℕ → List ℕ → List ℕ → List ℕ → Form → Reply
+unfoldable pub listReply : Flat → List ℕ → List ℕ → List ℕ → List ℕ → List ℕ → Flat → Reply
 listReply session sram kinds identifiers counts bytes answers =
     listLeaves
     (itemPrecheck (sessionIn session) sram
@@ -87,7 +87,7 @@ pub record ListMerged (configuration : Configuration) (sram : List ℕ) (items :
 
 -- what the call promises of its reply
 pub record ListClaim
-    (session : Form) (sram kinds identifiers counts bytes : List ℕ) (answers : Form) (reply : Reply)
+    (session : Flat) (sram kinds identifiers counts bytes : List ℕ) (answers : Flat) (reply : Reply)
     : Type 0 where
   pub equation : reply ≡ listReply session sram kinds identifiers counts bytes answers
   pub demand-3 : (configuration : Configuration) → sessionIn session ≡ freshSession configuration → reply .number ≡ 0

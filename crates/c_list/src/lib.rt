@@ -11,7 +11,7 @@ ghost use Rattle.session_answers.specs.declared.Prechecked.{Prechecked};
 ghost use Rattle.session_answers.specs.Answers.{precheck, withoutEcho};
 ghost use Rattle.session.specs.Rules.{step};
 ghost use Rattle.session.specs.Running.{ran};
-ghost use Rattle.c_answer.specs.Writing.{asForm, echoWidth, answerWidth};
+ghost use Rattle.c_answer.specs.Writing.{asFlat, echoWidth, answerWidth};
 ghost use Rattle.c_session.specs.Reading.{sessionIn};
 ghost use Rattle.c_items.specs.Calls.{asReply};
 ghost use Rattle.c_list.specs.Calls.{itemsOf, partsFit, listFits, answerAt, Handed, listRan, ListClaim};
@@ -78,8 +78,8 @@ fn list_fits(
 fn put_refused(echoes: &mut [u8], answers: &mut [u32], i: usize)
     requires { ⌜ (echoWidth * i + echoWidth ≤ length (now echoes)) × (answerWidth * i + answerWidth ≤ length (now answers)) ⌝ }
     ensures { λ _. ⌜
-        asForm (now (echoes .exit)) (now (answers .exit))
-        ≡ answerAt i (withoutEcho (Outcome.Refused Fault.Form)) (asForm (now (echoes .entry)) (now (answers .entry)))
+        asFlat (now (echoes .exit)) (now (answers .exit))
+        ≡ answerAt i (withoutEcho (Outcome.Refused Fault.Form)) (asFlat (now (echoes .entry)) (now (answers .entry)))
         ⌝ }
 {
     let from = ECHO_WIDTH * i;
@@ -103,13 +103,13 @@ fn hand_in_at(
     i: usize,
 )
     requires { ⌜
-        (precheck (sessionIn (asForm (now «session_bytes») (now session))) (now sram) true ≡ Prechecked.Passed)
+        (precheck (sessionIn (asFlat (now «session_bytes») (now session))) (now sram) true ≡ Prechecked.Passed)
         × (echoWidth * i + echoWidth ≤ length (now echoes))
         × (answerWidth * i + answerWidth ≤ length (now answers))
         ⌝ }
     ensures { λ _. ⌜
-        Handed (step (sessionIn (asForm (now («session_bytes» .entry)) (now (session .entry)))) (now (sram .entry)) (Item.Of source (now (bytes .entry)))) i (asForm (now (echoes .entry)) (now (answers .entry)))
-        (sessionIn (asForm (now («session_bytes» .exit)) (now (session .exit)))) (now (sram .exit)) (asForm (now (echoes .exit)) (now (answers .exit)))
+        Handed (step (sessionIn (asFlat (now («session_bytes» .entry)) (now (session .entry)))) (now (sram .entry)) (Item.Of source (now (bytes .entry)))) i (asFlat (now (echoes .entry)) (now (answers .entry)))
+        (sessionIn (asFlat (now («session_bytes» .exit)) (now (session .exit)))) (now (sram .exit)) (asFlat (now (echoes .exit)) (now (answers .exit)))
         ⌝ }
 {
     let from = ECHO_WIDTH * i;
@@ -141,13 +141,13 @@ fn run_items(
     answers: &mut [u32],
 )
     requires { ⌜
-        precheck (sessionIn (asForm (now «session_bytes») (now session))) (now sram)
+        precheck (sessionIn (asFlat (now «session_bytes») (now session))) (now sram)
         (listFits (now kinds) (now identifiers) (now counts) (length (now bytes)) (length (now echoes)) (length (now answers)))
         ≡ Prechecked.Passed
         ⌝ }
     ensures { λ _. ⌜
-        asReply 0 (asForm (now («session_bytes» .exit)) (now (session .exit))) (now (sram .exit)) (asForm (now (echoes .exit)) (now (answers .exit)))
-        ≡ listRan (ran (sessionIn (asForm (now («session_bytes» .entry)) (now (session .entry)))) (now (sram .entry)) (itemsOf (now (kinds .entry)) (now (identifiers .entry)) (now (counts .entry)) (now (bytes .entry))))
+        asReply 0 (asFlat (now («session_bytes» .exit)) (now (session .exit))) (now (sram .exit)) (asFlat (now (echoes .exit)) (now (answers .exit)))
+        ≡ listRan (ran (sessionIn (asFlat (now («session_bytes» .entry)) (now (session .entry)))) (now (sram .entry)) (itemsOf (now (kinds .entry)) (now (identifiers .entry)) (now (counts .entry)) (now (bytes .entry))))
         ⌝ }
 {
     let mut at: usize = 0;
@@ -183,8 +183,8 @@ pub fn list(
     answers: &mut [u32],
 ) -> u8
     ensures { λ r. ⌜
-        ListClaim (asForm (now («session_bytes» .entry)) (now (session .entry))) (now (sram .entry)) (now (kinds .entry)) (now (identifiers .entry)) (now (counts .entry)) (now (bytes .entry)) (asForm (now (echoes .entry)) (now (answers .entry)))
-        (asReply r (asForm (now («session_bytes» .exit)) (now (session .exit))) (now (sram .exit)) (asForm (now (echoes .exit)) (now (answers .exit))))
+        ListClaim (asFlat (now («session_bytes» .entry)) (now (session .entry))) (now (sram .entry)) (now (kinds .entry)) (now (identifiers .entry)) (now (counts .entry)) (now (bytes .entry)) (asFlat (now (echoes .entry)) (now (answers .entry)))
+        (asReply r (asFlat (now («session_bytes» .exit)) (now (session .exit))) (now (sram .exit)) (asFlat (now (echoes .exit)) (now (answers .exit))))
         ⌝ }
 {
     let formed = list_fits(

@@ -8,13 +8,13 @@ use lib.Dec.{eqb}
 use lib.ListN.{length}
 use Rattle.buffers.specs.Write.{filled}
 use Rattle.buffers.proofs.Lending.{fill-whole}
-use Rattle.c_answer.specs.Writing.{asForm}
+use Rattle.c_answer.specs.Writing.{asFlat}
 
 pub whole
     : (bytes numbers out-bytes out : List ℕ)
     → length bytes ≡ 8
     → (eqb (length out-bytes) 8 && eqb (length out) (length numbers)) ≡ true
-    → asForm (filled bytes out-bytes) (filled numbers out) ≡ asForm bytes numbers
+    → asFlat (filled bytes out-bytes) (filled numbers out) ≡ asFlat bytes numbers
 whole bytes numbers out-bytes out eight sized =
     let many = and-eq-true-iff (eqb (length out-bytes) 8) (eqb (length out) (length numbers)) .0 sized in
     rw (

@@ -2,8 +2,8 @@
 ghost use mathlib.Core.Path.{_≡_};
 ghost use mathlib.Core.Bool.{true};
 ghost use Rattle.sender.specs.declared.TellAnswer.{TellAnswer};
-ghost use Rattle.c_answer.specs.Writing.{asForm};
-ghost use Rattle.c_sender.specs.Numbers.{senderPlaces, SenderEncoding, itemPlaces, itemForm};
+ghost use Rattle.c_answer.specs.Writing.{asFlat};
+ghost use Rattle.c_sender.specs.Numbers.{senderPlaces, SenderEncoding, itemPlaces, itemFlat};
 ghost use Rattle.c_load.specs.Calls.{asBeginReply, replyToBegin, asAskReply, replyToAsk, asTellReply, tellLeaves, replyToTell};
 use c_sender::ITEM_BYTES;
 use c_sender::ITEM_WIDTH;
@@ -16,15 +16,15 @@ use sender_load::Sent;
 
 // Whether there are places for a sender.
 fn has_places(bytes: &[u8], numbers: &[u32]) -> bool
-    ensures { λ r. ⌜ r ≡ senderPlaces (asForm (now (bytes .entry)) (now (numbers .entry))) ⌝ }
+    ensures { λ r. ⌜ r ≡ senderPlaces (asFlat (now (bytes .entry)) (now (numbers .entry))) ⌝ }
 {
     (bytes.len() == SENDER_BYTES) & (numbers.len() == SENDER_WIDTH)
 }
 
 // Writes a sender in its places, and an item in its.
 fn put_sender(bytes: &mut [u8], numbers: &mut [u32], sender: Sender)
-    requires { ⌜ senderPlaces (asForm (now bytes) (now numbers)) ≡ true ⌝ }
-    ensures { λ _. ⌜ SenderEncoding sender (asForm (now (bytes .exit)) (now (numbers .exit))) ⌝ }
+    requires { ⌜ senderPlaces (asFlat (now bytes) (now numbers)) ≡ true ⌝ }
+    ensures { λ _. ⌜ SenderEncoding sender (asFlat (now (bytes .exit)) (now (numbers .exit))) ⌝ }
 {
     let configuration = sender.configuration;
     let password = configuration.password;
@@ -34,8 +34,8 @@ fn put_sender(bytes: &mut [u8], numbers: &mut [u32], sender: Sender)
 }
 
 fn put_item(bytes: &mut [u8], numbers: &mut [u32], sent: Sent)
-    requires { ⌜ itemPlaces (asForm (now bytes) (now numbers)) ≡ true ⌝ }
-    ensures { λ _. ⌜ asForm (now (bytes .exit)) (now (numbers .exit)) ≡ itemForm sent ⌝ }
+    requires { ⌜ itemPlaces (asFlat (now bytes) (now numbers)) ≡ true ⌝ }
+    ensures { λ _. ⌜ asFlat (now (bytes .exit)) (now (numbers .exit)) ≡ itemFlat sent ⌝ }
 {
     let eight = sent.bytes;
     let written = c_sender::item_numbers(sent);
@@ -47,15 +47,15 @@ fn put_item(bytes: &mut [u8], numbers: &mut [u32], sent: Sent)
 pub fn begin(
     port: u32,
     start: u32,
-    vle: u8,
+    vle: u32,
     password: &[u8],
     image: &[u8],
     sender_bytes: &mut [u8],
     sender: &mut [u32],
 ) -> u8
     ensures { λ r. ⌜
-        asBeginReply r (asForm (now («sender_bytes» .exit)) (now (sender .exit)))
-        ≡ replyToBegin port start vle (now (password .entry)) (now (image .entry)) (asForm (now («sender_bytes» .entry)) (now (sender .entry)))
+        asBeginReply r (asFlat (now («sender_bytes» .exit)) (now (sender .exit)))
+        ≡ replyToBegin port start vle (now (password .entry)) (now (image .entry)) (asFlat (now («sender_bytes» .entry)) (now (sender .entry)))
         ⌝ }
 {
     if !has_places(sender_bytes, sender) {
@@ -65,7 +65,7 @@ pub fn begin(
         let result = sender::begin(
             c_sender::port_of(port),
             start,
-            c_sender::flag_of(vle as u32),
+            c_sender::flag_of(vle),
             octets::first_eight(password),
             image,
         );
@@ -87,8 +87,8 @@ pub fn ask(
     item: &mut [u32],
 ) -> u8
     ensures { λ r. ⌜
-        asAskReply r (asForm (now («sender_bytes» .exit)) (now (sender .exit))) (asForm (now («item_bytes» .exit)) (now (item .exit)))
-        ≡ replyToAsk (asForm (now («sender_bytes» .entry)) (now (sender .entry))) (now (image .entry)) (asForm (now («item_bytes» .entry)) (now (item .entry)))
+        asAskReply r (asFlat (now («sender_bytes» .exit)) (now (sender .exit))) (asFlat (now («item_bytes» .exit)) (now (item .exit)))
+        ≡ replyToAsk (asFlat (now («sender_bytes» .entry)) (now (sender .entry))) (now (image .entry)) (asFlat (now («item_bytes» .entry)) (now (item .entry)))
         ⌝ }
 {
     if !has_places(sender_bytes, sender) {
@@ -119,10 +119,10 @@ fn put_verdict(
     says: Verdict,
     port: u32,
 ) -> u8
-    requires { ⌜ senderPlaces (asForm (now «sender_bytes») (now sender)) ≡ true ⌝ }
+    requires { ⌜ senderPlaces (asFlat (now «sender_bytes») (now sender)) ≡ true ⌝ }
     ensures { λ r. ⌜
-        asTellReply r (asForm (now («sender_bytes» .exit)) (now (sender .exit))) (now (verdict .exit))
-        ≡ tellLeaves (TellAnswer.Says says) next port (asForm (now («sender_bytes» .entry)) (now (sender .entry))) (now (verdict .entry))
+        asTellReply r (asFlat (now («sender_bytes» .exit)) (now (sender .exit))) (now (verdict .exit))
+        ≡ tellLeaves (TellAnswer.Says says) next port (asFlat (now («sender_bytes» .entry)) (now (sender .entry))) (now (verdict .entry))
         ⌝ }
 {
     if port <= 1 {
@@ -144,8 +144,8 @@ pub fn tell(
     verdict: &mut u8,
 ) -> u8
     ensures { λ r. ⌜
-        asTellReply r (asForm (now («sender_bytes» .exit)) (now (sender .exit))) (now (verdict .exit))
-        ≡ replyToTell (asForm (now («sender_bytes» .entry)) (now (sender .entry))) (now (image .entry)) port identifier (now (bytes .entry)) (now (verdict .entry))
+        asTellReply r (asFlat (now («sender_bytes» .exit)) (now (sender .exit))) (now (verdict .exit))
+        ≡ replyToTell (asFlat (now («sender_bytes» .entry)) (now (sender .entry))) (now (image .entry)) port identifier (now (bytes .entry)) (now (verdict .entry))
         ⌝ }
 {
     if !has_places(sender_bytes, sender) {

@@ -6,7 +6,7 @@ use lib.ListN.{length}
 use lib.Dec.{eqb, leb}
 use Rattle.mmu.specs.declared.Mapping.{Mapping}
 use Rattle.mmu.specs.Rows.{choiceRows, sessionRows}
-use Rattle.c_answer.specs.Writing.{Form}
+use Rattle.c_answer.specs.Writing.{Flat}
 use Rattle.c_session.specs.Reading.{sessionIn}
 use Rattle.c_choice.specs.Numbers.{modeOf}
 use Rattle.c_rows.specs.Numbers.{tableNumbers}
@@ -31,5 +31,5 @@ unfoldable pub choiceRowsReply : ℕ → List ℕ → RowsReply
 choiceRowsReply mode rows = cond (leb mode 4) (rowsLeave (choiceRows (modeOf mode)) rows) (asRowsReply 9 rows)
 
 -- the rows of a session
-abbrev pub sessionRowsReply : Form → List ℕ → RowsReply
+abbrev pub sessionRowsReply : Flat → List ℕ → RowsReply
 sessionRowsReply session rows = rowsLeave (sessionRows (sessionIn session)) rows

@@ -1,7 +1,7 @@
-// The MMU rows of a choice and of a session on numbers and a lent output, as the C interface has them (include/boot_assist.h).
+// The MMU rows of a choice and of a session on bytes, numbers and a lent output, as the C interface has them (include/boot_assist.h).
 ghost use mathlib.Core.Path.{_≡_};
 ghost use lib.ListN.{length};
-ghost use Rattle.c_answer.specs.Writing.{asForm};
+ghost use Rattle.c_answer.specs.Writing.{asFlat};
 ghost use Rattle.c_rows.specs.Numbers.{rowNumbers, tableNumbers};
 ghost use Rattle.c_rows.specs.Calls.{asRowsReply, rowsLeave, choiceRowsReply, sessionRowsReply};
 use mmu::Mapping;
@@ -66,7 +66,7 @@ pub fn choice_rows(mode: u32, rows: &mut [u32]) -> u8
 pub fn session_rows(session_bytes: &[u8], session: &[u32], rows: &mut [u32]) -> u8
     ensures { λ r. ⌜
         asRowsReply r (now (rows .exit))
-        ≡ sessionRowsReply (asForm (now («session_bytes» .entry)) (now (session .entry))) (now (rows .entry))
+        ≡ sessionRowsReply (asFlat (now («session_bytes» .entry)) (now (session .entry))) (now (rows .entry))
         ⌝ }
 {
     put_mapping(

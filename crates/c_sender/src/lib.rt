@@ -1,6 +1,6 @@
 // Senders, items and verdicts as bytes and numbers, as they cross the C interface (include/boot_assist.h).
 ghost use mathlib.Core.Path.{_≡_};
-ghost use Rattle.c_answer.specs.Writing.{asForm};
+ghost use Rattle.c_answer.specs.Writing.{asFlat};
 ghost use Rattle.c_sender.specs.Numbers.{senderNumbers, flagOf, portFor, senderRead, identifierOf, itemNumbers, verdictNumber};
 use sender::Verdict;
 use sender_load::Sender;
@@ -51,7 +51,7 @@ pub fn port_of(number: u32) -> Port
 
 // The sender of bytes and numbers.
 pub fn read_sender(bytes: &[u8], numbers: &[u32]) -> Sender
-    ensures { λ r. ⌜ r ≡ senderRead (asForm (now (bytes .entry)) (now (numbers .entry))) ⌝ }
+    ensures { λ r. ⌜ r ≡ senderRead (asFlat (now (bytes .entry)) (now (numbers .entry))) ⌝ }
 {
     Sender {
         going: flag_of(c_session::number_at(numbers, 0)),

@@ -18,7 +18,7 @@ use Rattle.session_state.specs.declared.Session.{Session}
 use Rattle.session_state.specs.declared.Stage.{Stage}
 use Rattle.c_answer.specs.Writing.{bit, enteredNumber, enteredOf}
 use Rattle.c_answer.proofs.Whole.{entered-back}
-use Rattle.c_session.specs.Writing.{sessionNumbers, sessionForm}
+use Rattle.c_session.specs.Writing.{sessionNumbers, sessionFlat}
 use Rattle.c_session.specs.Reading.{numberAt, portRead, refusalRead, stageRead, sessionRead, encodes, sessionIn}
 use Rattle.c_session.proofs.Lengths.{session-length}
 
@@ -62,7 +62,7 @@ entered-at s (Stage.Data port load) = refl
 entered-at s (Stage.Stopped refusal) = refl
 entered-at s (Stage.Jumped jump) = refl
 
-session-back : (s : Session) → Stored s → sessionRead (sessionForm s) ≡ s
+session-back : (s : Session) → Stored s → sessionRead (sessionFlat s) ≡ s
 session-back s m =
     λ i. record {
       configuration = record {
@@ -75,10 +75,10 @@ session-back s m =
     }
 
 -- what a session is written as is read as that session
-pub reads-back : (s : Session) → Stored s → sessionIn (sessionForm s) ≡ s
+pub reads-back : (s : Session) → Stored s → sessionIn (sessionFlat s) ≡ s
 unfolding sessionIn encodes
 reads-back s m =
     let back = session-back s m in
-    let own : same (sessionNumbers (sessionRead (sessionForm s))) (sessionNumbers s) ≡ true =
+    let own : same (sessionNumbers (sessionRead (sessionFlat s))) (sessionNumbers s) ≡ true =
     ap (λ (t : Session). same (sessionNumbers t) (sessionNumbers s)) back ∙ same-own (sessionNumbers s) in
     rw (session-length s, own) back

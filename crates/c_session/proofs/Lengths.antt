@@ -16,8 +16,8 @@ use Rattle.buffers.proofs.Eight.{eight-take, eight-whole}
 use Rattle.session_state.specs.declared.Session.{Session}
 use Rattle.session_state.specs.declared.Stage.{Stage}
 use Rattle.session_state.specs.Sound.{sound}
-use Rattle.c_answer.specs.Writing.{Form, asForm}
-use Rattle.c_session.specs.Writing.{loadNumbers, configurationNumbers, sessionNumbers, sessionForm, sessionBytesWidth, sessionWidth, sessionPlaces}
+use Rattle.c_answer.specs.Writing.{Flat, asFlat}
+use Rattle.c_session.specs.Writing.{loadNumbers, configurationNumbers, sessionNumbers, sessionFlat, sessionBytesWidth, sessionWidth, sessionPlaces}
 use Rattle.c_session.specs.Reading.{sessionRead, unsoundSession, encodes, sessionIn}
 
 load-length : (stage : Stage) (behind : List ℕ) → length (loadNumbers stage ++ behind) ≡ 5 + length behind
@@ -32,7 +32,7 @@ pub session-length : (session : Session) → length (sessionNumbers session) ≡
 session-length session = rw (load-length (session .stage) (configurationNumbers (session .configuration)))
 
 -- the two lists of a session's places
-pub places : (bytes numbers : List ℕ) → sessionPlaces (asForm bytes numbers) ≡ true
+pub places : (bytes numbers : List ℕ) → sessionPlaces (asFlat bytes numbers) ≡ true
     → (length bytes ≡ sessionBytesWidth) × (length numbers ≡ sessionWidth)
 places bytes numbers e =
     let both = and-eq-true-iff (eqb (length bytes) sessionBytesWidth) (eqb (length numbers) sessionWidth) .0 e in
@@ -59,30 +59,30 @@ halves selected held bytes e f room =
     (sym (λ i. eight-whole selected e i ++ eight-whole held f i))
 
 -- bytes and numbers that read as a sound session are what it is written as
-pub record IsWritten (form : Form) : Type 0 where
+pub record IsWritten (form : Flat) : Type 0 where
   pub placed : sessionPlaces form ≡ true
-  pub same-form : sessionForm (sessionIn form) ≡ form
+  pub same-form : sessionFlat (sessionIn form) ≡ form
 
-pub sound-written : (bytes numbers : List ℕ) → sound (sessionIn (asForm bytes numbers)) ≡ true → IsWritten (asForm bytes numbers)
+pub sound-written : (bytes numbers : List ℕ) → sound (sessionIn (asFlat bytes numbers)) ≡ true → IsWritten (asFlat bytes numbers)
 unfolding sessionIn encodes sound
-sound-written bytes numbers fine = by (encodes (asForm bytes numbers)) refl fine
+sound-written bytes numbers fine = by (encodes (asFlat bytes numbers)) refl fine
   where
-    by : (b : Bool) → encodes (asForm bytes numbers) ≡ b
-        → sound (cond b (sessionRead (asForm bytes numbers)) (unsoundSession numbers)) ≡ true
-        → IsWritten (asForm bytes numbers)
+    by : (b : Bool) → encodes (asFlat bytes numbers) ≡ b
+        → sound (cond b (sessionRead (asFlat bytes numbers)) (unsoundSession numbers)) ≡ true
+        → IsWritten (asFlat bytes numbers)
     by true e s =
-        let form = asForm bytes numbers in
+        let form = asFlat bytes numbers in
         let both = and-eq-true-iff (sessionPlaces form) (same (sessionNumbers (sessionRead form)) numbers) .0 e in
         record {
           placed = both .0;
           same-form =
               rw e
-              (λ i. asForm (sixteen bytes (places bytes numbers (both .0) .0) i) (same-equal (sessionNumbers (sessionRead form)) numbers (both .1) i));
+              (λ i. asFlat (sixteen bytes (places bytes numbers (both .0) .0) i) (same-equal (sessionNumbers (sessionRead form)) numbers (both .1) i));
         }
     by false e s = absurd (false≢true s)
 
 -- the password of what is read has 8 bytes
-pub password-eight : (form : Form) → length (sessionIn form .configuration .password) ≡ 8
+pub password-eight : (form : Flat) → length (sessionIn form .configuration .password) ≡ 8
 unfolding sessionIn
 password-eight form = either (encodes form)
   where

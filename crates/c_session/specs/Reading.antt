@@ -14,8 +14,8 @@ use Rattle.session_state.specs.declared.Port.{Port}
 use Rattle.session_state.specs.declared.Refusal.{Refusal}
 use Rattle.session_state.specs.declared.Session.{Session}
 use Rattle.session_state.specs.declared.Stage.{Stage}
-use Rattle.c_answer.specs.Writing.{Form, enteredOf}
-use Rattle.c_session.specs.Writing.{sessionNumbers, sessionForm, sessionPlaces, sessionPut}
+use Rattle.c_answer.specs.Writing.{Flat, enteredOf}
+use Rattle.c_session.specs.Writing.{sessionNumbers, sessionFlat, sessionPlaces, sessionPut}
 
 -- the number at a place
 abbrev pub numberAt : List ℕ → ℕ → ℕ
@@ -56,7 +56,7 @@ stageRead numbers =
 abbrev pub configurationRead : List ℕ → List ℕ → Configuration
 configurationRead selected numbers = record { password = selected; entered = enteredOf (numberAt numbers 8) }
 
-abbrev pub sessionRead : Form → Session
+abbrev pub sessionRead : Flat → Session
 sessionRead form =
     record {
       configuration = configurationRead (firstEight (form .bytes)) (form .numbers);
@@ -66,7 +66,7 @@ sessionRead form =
     }
 
 -- there are places for a session, and writing the session that they read as gives the same numbers again
-unfoldable pub encodes : Form → Bool
+unfoldable pub encodes : Flat → Bool
 encodes form = sessionPlaces form && same (sessionNumbers (sessionRead form)) (form .numbers)
 
 -- numbers of no session stand for one that is not sound: it waits and holds a byte, in the configuration that they name, with no password
@@ -79,11 +79,11 @@ unsoundSession numbers =
       count = 1;
     }
 
-unfoldable pub sessionIn : Form → Session
+unfoldable pub sessionIn : Flat → Session
 sessionIn form = cond (encodes form) (sessionRead form) (unsoundSession (form .numbers))
 
--- what `c_session::put_session` promises of what was in the places of a session and what is then: they hold the session, and what a session
--- is written as is read as that session
-pub record Written (session : Session) (before after : Form) : Type 0 where
+-- what `c_session::put_session` promises of bytes and numbers before and after it: the session is written, if they are as many as it has, and
+-- what a session is written as is read as that session
+pub record Written (session : Session) (before after : Flat) : Type 0 where
   pub equation : after ≡ sessionPut session before
-  pub reads-back : sessionIn (sessionForm session) ≡ session
+  pub reads-back : sessionIn (sessionFlat session) ≡ session

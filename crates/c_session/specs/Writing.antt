@@ -11,7 +11,7 @@ use Rattle.session_state.specs.declared.Session.{Session}
 use Rattle.session_state.specs.declared.Stage.{Stage}
 use Rattle.session_state.specs.Accepted.{acceptedVle}
 use Rattle.session_answers.specs.Answers.{refusalNumber}
-use Rattle.c_answer.specs.Writing.{Form, asForm, bit, enteredNumber}
+use Rattle.c_answer.specs.Writing.{Flat, asFlat, bit, enteredNumber}
 
 abbrev pub stageNumber : Stage → ℕ
 stageNumber Stage.Waiting = 0
@@ -58,8 +58,8 @@ sessionNumbers session =
     ++ loadNumbers (session .stage)
     ++ configurationNumbers (session .configuration)
 
-abbrev pub sessionForm : Session → Form
-sessionForm session = asForm (sessionBytes session) (sessionNumbers session)
+abbrev pub sessionFlat : Session → Flat
+sessionFlat session = asFlat (sessionBytes session) (sessionNumbers session)
 
 abbrev pub sessionBytesWidth : ℕ
 sessionBytesWidth = 16
@@ -67,9 +67,9 @@ sessionBytesWidth = 16
 abbrev pub sessionWidth : ℕ
 sessionWidth = 9
 
--- places for a session; and a session in its places, of which other ones keep what they hold
-abbrev pub sessionPlaces : Form → Bool
+-- places for a session; and a session that is written: lists of other lengths are left as they are
+abbrev pub sessionPlaces : Flat → Bool
 sessionPlaces form = eqb (length (form .bytes)) sessionBytesWidth && eqb (length (form .numbers)) sessionWidth
 
-unfoldable pub sessionPut : Session → Form → Form
-sessionPut session form = cond (sessionPlaces form) (sessionForm session) form
+unfoldable pub sessionPut : Session → Flat → Flat
+sessionPut session form = cond (sessionPlaces form) (sessionFlat session) form

@@ -1,8 +1,8 @@
-// Sessions as lists of numbers, written and read, as they cross the C interface (include/boot_assist.h).
+// Sessions as bytes and numbers, written and read, as they cross the C interface (include/boot_assist.h).
 ghost use mathlib.Core.Path.{_≡_};
 ghost use lib.ListN.{length};
 ghost use Rattle.octets.specs.Same.{same};
-ghost use Rattle.c_answer.specs.Writing.{asForm};
+ghost use Rattle.c_answer.specs.Writing.{asFlat};
 ghost use Rattle.c_session.specs.Writing.{stageNumber, portNumber, portIn, loadNumbers, configurationNumbers, sessionNumbers, sessionBytesWidth, sessionBytes, sessionPlaces};
 ghost use Rattle.c_session.specs.Reading.{Written, numberAt, portRead, loadRead, refusalRead, jumpRead, stageRead, configurationRead, sessionRead, unsoundSession, sessionIn};
 use session_configuration::Configuration;
@@ -21,7 +21,7 @@ pub const SESSION_WIDTH: usize = 9;
 
 // Whether there are places for a session.
 pub fn has_places(bytes: &[u8], numbers: &[u32]) -> bool
-    ensures { λ r. ⌜ r ≡ sessionPlaces (asForm (now (bytes .entry)) (now (numbers .entry))) ⌝ }
+    ensures { λ r. ⌜ r ≡ sessionPlaces (asFlat (now (bytes .entry)) (now (numbers .entry))) ⌝ }
 {
     (bytes.len() == SESSION_BYTES) & (numbers.len() == SESSION_WIDTH)
 }
@@ -134,7 +134,7 @@ fn put_bytes(bytes: &mut [u8], session: Session)
 // Writes a session, where there are places for it.
 pub fn put_session(bytes: &mut [u8], numbers: &mut [u32], session: Session)
     ensures { λ _. ⌜
-        Written session (asForm (now (bytes .entry)) (now (numbers .entry))) (asForm (now (bytes .exit)) (now (numbers .exit)))
+        Written session (asFlat (now (bytes .entry)) (now (numbers .entry))) (asFlat (now (bytes .exit)) (now (numbers .exit)))
         ⌝ }
 {
     if has_places(bytes, numbers) {
@@ -224,7 +224,7 @@ fn configuration_in(selected: [u8; 8], numbers: &[u32]) -> Configuration
 // The session that bytes and numbers read as.
 fn decode(bytes: &[u8], numbers: &[u32]) -> Session
     requires { ⌜ length (now bytes) ≡ sessionBytesWidth ⌝ }
-    ensures { λ r. ⌜ r ≡ sessionRead (asForm (now (bytes .entry)) (now (numbers .entry))) ⌝ }
+    ensures { λ r. ⌜ r ≡ sessionRead (asFlat (now (bytes .entry)) (now (numbers .entry))) ⌝ }
 {
     let held = buffers::eight_of(&bytes[8..16]);
     Session {
@@ -266,7 +266,7 @@ fn unsound(numbers: &[u32]) -> Session
 
 // The session of bytes and numbers, or one that is not sound where no session has them.
 pub fn read_session(bytes: &[u8], numbers: &[u32]) -> Session
-    ensures { λ r. ⌜ r ≡ sessionIn (asForm (now (bytes .entry)) (now (numbers .entry))) ⌝ }
+    ensures { λ r. ⌜ r ≡ sessionIn (asFlat (now (bytes .entry)) (now (numbers .entry))) ⌝ }
 {
     if !has_places(bytes, numbers) {
         return unsound(numbers);

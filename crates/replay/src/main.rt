@@ -45,7 +45,8 @@ fn record_end(bytes: &[u8], at: usize) -> usize {
 }
 
 // How long a window has to be that begins with these bytes, so that the records are played that are whole in them, and nothing behind
-// those: of a window that is not the last, a record is played that begins 14 bytes before its end or earlier.
+// those: of a window that is not the last, a record is played that begins 14 bytes before its end or earlier. They are at most 13 bytes, which is
+// what a window leaves (`replay_window: Windows.ready`).
 fn whole_part(bytes: &[u8]) -> usize {
     let mut part = 0;
     let mut at = 0;

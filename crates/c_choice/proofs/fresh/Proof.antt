@@ -11,7 +11,7 @@ use Rattle.octets.specs.Read.{firstEight}
 use Rattle.boot.specs.declared.Mode.{Mode}
 use Rattle.session_fresh.specs.declared.Start.{Start}
 use Rattle.session_fresh.specs.Fresh.{freshIn}
-use Rattle.c_answer.specs.Writing.{Form, asForm}
+use Rattle.c_answer.specs.Writing.{Flat, asFlat}
 use Rattle.c_session.specs.Writing.{sessionPlaces, sessionPut}
 use Rattle.c_session.specs.Reading.{Written}
 use Rattle.c_choice.specs.Numbers.{modeOf}
@@ -67,7 +67,7 @@ same-length-4 c = search needs
 
 -- where no test refuses, the session is the one that the way to boot gives
 module _
-    (mode : ℕ) (password selected : List ℕ) (session : Form) (way : Mode) (start : Start) (few : mode ≤ 4)
+    (mode : ℕ) (password selected : List ℕ) (session : Flat) (way : Mode) (start : Start) (few : mode ≤ 4)
     (eight : length password ≡ 8) (there : sessionPlaces session ≡ true) (read : way ≡ modeOf mode) (bytes : selected ≡ firstEight password)
     (given : start ≡ freshIn way selected) where
   is-given : start ≡ freshIn (modeOf mode) (firstEight password)
@@ -79,7 +79,7 @@ module _
       rw (le-leb mode 4 few, eq-eqb (length password) 8 eight, there)
       (ap (λ (s : Start). freshLeaves s session) (sym is-given))
 
-  written : (out : Form) → start .serial ≡ true → Written (start .session) session out
+  written : (out : Flat) → start .serial ≡ true → Written (start .session) session out
       → asFreshReply 0 out ≡ sessionReply mode password session
   unfolding sessionPut
   written out serial put = rw (allowed, serial, put .equation, there)
@@ -95,7 +95,7 @@ returns-4 c =
     let placed = begun .before .before .before in
     let sized = placed .before .before .before .before in
     let a = sized .before .before .before .before .before .args in
-    written (a .mode) (now (a .password)) _ (asForm (now (a .session-bytes)) (now (a .session))) _ (begun .fresh-in .result) (sized .before .if1 .left)
+    written (a .mode) (now (a .password)) _ (asFlat (now (a .session-bytes)) (now (a .session))) _ (begun .fresh-in .result) (sized .before .if1 .left)
     (sized .if2 .left) (sym (placed .before .has-places .ensures) ∙ not-false (placed .before .has-places .result) (placed .if3 .left))
     (begun .before .before .mode-of .ensures) (begun .before .first-eight .ensures) (begun .fresh-in .ensures) _ (test .if4 .taken) (put .put-session .ensures)
 
@@ -111,7 +111,7 @@ returns-5 c =
     let placed = begun .before .before .before in
     let sized = placed .before .before .before .before in
     let a = sized .before .before .before .before .before .args in
-    unwritten (a .mode) (now (a .password)) _ (asForm (now (a .session-bytes)) (now (a .session))) _ (begun .fresh-in .result) (sized .before .if1 .left)
+    unwritten (a .mode) (now (a .password)) _ (asFlat (now (a .session-bytes)) (now (a .session))) _ (begun .fresh-in .result) (sized .before .if1 .left)
     (sized .if2 .left) (sym (placed .before .has-places .ensures) ∙ not-false (placed .before .has-places .result) (placed .if3 .left))
     (begun .before .before .mode-of .ensures) (begun .before .first-eight .ensures) (begun .fresh-in .ensures) (c .if4 .left)
 

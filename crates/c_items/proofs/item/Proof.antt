@@ -3,7 +3,7 @@ use mathlib.Core.Path.{sym, _∙_}
 use denote.Ref.{now}
 use borrow.Author.Tests.{not-true, not-false}
 use borrow.Author.Needs.{needs}
-use Rattle.c_answer.specs.Writing.{asForm}
+use Rattle.c_answer.specs.Writing.{asFlat}
 use Rattle.c_items.proofs.Laws.{not-refused, unplaced, refused-claim, answered-claim}
 use Rattle.c_items.proofs.item.Statement.{statement}
 use Rattle.c_items.proofs.item.Tie as tie
@@ -40,7 +40,7 @@ returns c =
     let test = c .before .before .before in
     let read = test .before .before .before .before in
     let a = read .before .before .before .before .before .before .before .before .before .args in
-    unplaced (now (a .session-bytes)) (now (a .session)) (now (a .sram)) _ (asForm (now (a .echo)) (now (a .answer))) _
+    unplaced (now (a .session-bytes)) (now (a .session)) (now (a .sram)) _ (asFlat (now (a .echo)) (now (a .answer))) _
     (sym (test .before .has-places .ensures) ∙ not-true (test .before .has-places .result) (test .if1 .taken))
     (rw (read .read-session .ensures, c .before .before .is-formed .ensures) at (c .item-precheck .ensures))
 
@@ -75,7 +75,7 @@ returns-2 c =
     let read = test .before .before .before .before in
     let a = read .before .before .before .before .before .before .before .before .before .args in
     rw (c .outcome-number .ensures)
-    (refused-claim (now (a .session-bytes)) (now (a .session)) (now (a .sram)) _ (asForm (now (a .echo)) (now (a .answer)))
+    (refused-claim (now (a .session-bytes)) (now (a .session)) (now (a .sram)) _ (asFlat (now (a .echo)) (now (a .answer)))
     (handed .hand-in .result) _ (sym (test .before .has-places .ensures) ∙ not-false (test .before .has-places .result) (test .if1 .left))
     (rw (read .read-session .ensures) at (handed .hand-in .ensures)) _ (c .before .enum-told .given .1))
 
@@ -113,7 +113,7 @@ returns-3 c =
     let read = test .before .before .before .before in
     let a = read .before .before .before .before .before .before .before .before .before .args in
     rw (c .outcome-number2 .ensures)
-    (answered-claim (now (a .session-bytes)) (now (a .session)) (now (a .sram)) _ (asForm (now (a .echo)) (now (a .answer)))
+    (answered-claim (now (a .session-bytes)) (now (a .session)) (now (a .sram)) _ (asFlat (now (a .echo)) (now (a .answer)))
     (handed .hand-in .result) _ (sym (test .before .has-places .ensures) ∙ not-false (test .before .has-places .result) (test .if1 .left))
     (rw (read .read-session .ensures) at (handed .hand-in .ensures)) _ _ (not-refused (handed .hand-in .result .answer .outcome) (arm .match .keys2)) (put .put-session .ensures) (said .put-answer .ensures))
 

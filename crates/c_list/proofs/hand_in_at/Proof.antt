@@ -7,7 +7,7 @@ use Rattle.session_answers.specs.declared.Fault.{Fault}
 use Rattle.session_answers.specs.declared.Outcome.{Outcome}
 use Rattle.session_answers.specs.Answers.{Result, withoutEcho}
 use Rattle.session.specs.Rules.{step}
-use Rattle.c_answer.specs.Writing.{asForm}
+use Rattle.c_answer.specs.Writing.{asFlat}
 use Rattle.c_session.specs.Reading.{sessionIn}
 use Rattle.c_items.specs.Calls.{Reply}
 use Rattle.c_list.specs.Calls.{answerAt}
@@ -77,8 +77,8 @@ returns c =
     let start = call .before .before .before .before .before .before .before .before .before .before .before .before in
     let a = start .args in
     let there = parts-placed (a .i) (now (a .echoes)) (now (a .answers)) (start .pre .1) (start .pre .2) in
-    let says = six (asForm (now (a .session-bytes)) (now (a .session))) (now (a .sram)) (Item.Of (a .source) (now (a .bytes)))
-    (asForm (echoPart (a .i) (now (a .echoes))) (answerPart (a .i) (now (a .answers)))) _ (call .item .ensures) there (start .pre .0) (test .if1 .taken) in
+    let says = six (asFlat (now (a .session-bytes)) (now (a .session))) (now (a .sram)) (Item.Of (a .source) (now (a .bytes)))
+    (asFlat (echoPart (a .i) (now (a .echoes))) (answerPart (a .i) (now (a .answers)))) _ (call .item .ensures) there (start .pre .0) (test .if1 .taken) in
     let kept = ap (λ (r : Reply). putParts (a .i) (now (a .echoes)) (now (a .answers)) (r .answer)) (says .reply-is)
     ∙ parts-kept (a .i) (now (a .echoes)) (now (a .answers)) (start .pre .1) (start .pre .2) in
     record {
@@ -87,7 +87,7 @@ returns c =
       answer-is =
           put .put-refused .ensures
           ∙ ap (answerAt (a .i) (withoutEcho (Outcome.Refused Fault.Form))) kept
-          ∙ sym (ap (λ (r : Result). answerAt (a .i) (r .answer) (asForm (now (a .echoes)) (now (a .answers)))) (says .step-is));
+          ∙ sym (ap (λ (r : Result). answerAt (a .i) (r .answer) (asFlat (now (a .echoes)) (now (a .answers)))) (says .step-is));
     }
 
 same-length-6 : tie.Need-same-length-6
@@ -111,15 +111,15 @@ returns-2 c =
     let start = call .before .before .before .before .before .before .before .before .before .before .before .before in
     let a = start .args in
     let there = parts-placed (a .i) (now (a .echoes)) (now (a .answers)) (start .pre .1) (start .pre .2) in
-    let says = other (asForm (now (a .session-bytes)) (now (a .session))) (now (a .sram)) (Item.Of (a .source) (now (a .bytes)))
-    (asForm (echoPart (a .i) (now (a .echoes))) (answerPart (a .i) (now (a .answers)))) _ (call .item .ensures) there (start .pre .0) (c .if1 .left) in
+    let says = other (asFlat (now (a .session-bytes)) (now (a .session))) (now (a .sram)) (Item.Of (a .source) (now (a .bytes)))
+    (asFlat (echoPart (a .i) (now (a .echoes))) (answerPart (a .i) (now (a .answers)))) _ (call .item .ensures) there (start .pre .0) (c .if1 .left) in
     record {
       session-is = call .item .ensures .reads-back there;
       sram-is = ap (λ (r : Reply). r .sram) says;
       answer-is =
           ap (λ (r : Reply). putParts (a .i) (now (a .echoes)) (now (a .answers)) (r .answer)) says
           ∙ parts-answered (a .i) (now (a .echoes)) (now (a .answers)) (start .pre .1) (start .pre .2)
-          (step (sessionIn (asForm (now (a .session-bytes)) (now (a .session)))) (now (a .sram)) (Item.Of (a .source) (now (a .bytes))) .answer);
+          (step (sessionIn (asFlat (now (a .session-bytes)) (now (a .session)))) (now (a .sram)) (Item.Of (a .source) (now (a .bytes))) .answer);
     }
 
 pub hand-in-at-spec : {M : Type 1} → statement M

@@ -5,7 +5,7 @@ use denote.Ref.{now}
 use borrow.Author.Needs.{needs}
 use Rattle.session_answers.specs.declared.Prechecked.{Prechecked}
 use Rattle.session_answers.specs.Answers.{precheck}
-use Rattle.c_answer.specs.Writing.{asForm}
+use Rattle.c_answer.specs.Writing.{asFlat}
 use Rattle.c_session.specs.Reading.{sessionIn}
 use Rattle.c_list.specs.Calls.{listFits}
 use Rattle.c_list.proofs.Claiming.{passes, refused-list, ran-list}
@@ -35,11 +35,11 @@ returns c =
     let first = c .before in
     let fits = first .before .before .before .before .before in
     let a = fits .before .before .before .before .before .before .before .before .before .before .args in
-    refused-list (asForm (now (a .session-bytes)) (now (a .session))) (now (a .sram)) (now (a .kinds)) (now (a .identifiers)) (now (a .counts)) (now (a .bytes)) (asForm (now (a .echoes)) (now (a .answers))) _
+    refused-list (asFlat (now (a .session-bytes)) (now (a .session))) (now (a .sram)) (now (a .kinds)) (now (a .identifiers)) (now (a .counts)) (now (a .bytes)) (asFlat (now (a .echoes)) (now (a .answers))) _
     (rw (first .before .before .read-session .ensures, fits .list-fits .ensures) at (first .item-precheck .ensures)) (c .if1 .taken)
 
 nothing-due : (c : tie.Else1)
-    → precheck (sessionIn (asForm (now (c .before .before .before .before .before .before .before .before .before .before .before .before .before .before .before .before .args .session-bytes)) (now (c .before .before .before .before .before .before .before .before .before .before .before .before .before .before .before .before .args .session)))) (now (c .before .before .before .before .before .before .before .before .before .before .before .before .before .before .before .before .args .sram))
+    → precheck (sessionIn (asFlat (now (c .before .before .before .before .before .before .before .before .before .before .before .before .before .before .before .before .args .session-bytes)) (now (c .before .before .before .before .before .before .before .before .before .before .before .before .before .before .before .before .args .session)))) (now (c .before .before .before .before .before .before .before .before .before .before .before .before .before .before .before .before .args .sram))
     (listFits (now (c .before .before .before .before .before .before .before .before .before .before .before .before .before .before .before .before .args .kinds)) (now (c .before .before .before .before .before .before .before .before .before .before .before .before .before .before .before .before .args .identifiers)) (now (c .before .before .before .before .before .before .before .before .before .before .before .before .before .before .before .before .args .counts)) (length (now (c .before .before .before .before .before .before .before .before .before .before .before .before .before .before .before .before .args .bytes))) (length (now (c .before .before .before .before .before .before .before .before .before .before .before .before .before .before .before .before .args .echoes))) (length (now (c .before .before .before .before .before .before .before .before .before .before .before .before .before .before .before .before .args .answers))))
     ≡ Prechecked.Passed
 nothing-due c =
@@ -70,7 +70,7 @@ returns-2 c =
     let ran = c .before .before .before .before .before .before .before .before .before .before in
     let test = ran .before .before .before .before .before .before in
     let a = test .before .before .before .before .before .before .before .before .before .before .before .before .before .before .before .before .args in
-    ran-list (asForm (now (a .session-bytes)) (now (a .session))) (now (a .sram)) (now (a .kinds)) (now (a .identifiers)) (now (a .counts)) (now (a .bytes)) (asForm (now (a .echoes)) (now (a .answers))) _
+    ran-list (asFlat (now (a .session-bytes)) (now (a .session))) (now (a .sram)) (now (a .kinds)) (now (a .identifiers)) (now (a .counts)) (now (a .bytes)) (asFlat (now (a .echoes)) (now (a .answers))) _
     (nothing-due test) (ran .run-items .ensures)
 
 pub list-spec : {M : Type 1} → statement M

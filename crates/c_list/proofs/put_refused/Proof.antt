@@ -5,7 +5,7 @@ use borrow.Author.Needs.{needs}
 use Rattle.session_answers.specs.declared.Fault.{Fault}
 use Rattle.session_answers.specs.declared.Outcome.{Outcome}
 use Rattle.session_answers.specs.Answers.{withoutEcho}
-use Rattle.c_answer.specs.Writing.{asForm, answerForm, answerPut}
+use Rattle.c_answer.specs.Writing.{asFlat, answerFlat, answerPut}
 use Rattle.c_list.proofs.Laws.{putParts, parts-placed, parts-answered}
 use Rattle.c_list.proofs.put_refused.Statement.{statement}
 use Rattle.c_list.proofs.put_refused.Tie as tie
@@ -64,7 +64,7 @@ returns c =
     let echoes = now (a .echoes) in
     let answers = now (a .answers) in
     let placed = parts-placed (a .i) echoes answers (start .pre .0) (start .pre .1) in
-    let said : asForm (put .put-answer .last .0) (put .put-answer .last .1 .0) ≡ answerForm (withoutEcho (Outcome.Refused Fault.Form)) =
+    let said : asFlat (put .put-answer .last .0) (put .put-answer .last .1 .0) ≡ answerFlat (withoutEcho (Outcome.Refused Fault.Form)) =
     put .put-answer .ensures ∙ rw (placed, put .before .without-echo .ensures) in
     ap (putParts (a .i) echoes answers) said ∙ parts-answered (a .i) echoes answers (start .pre .0) (start .pre .1) (withoutEcho (Outcome.Refused Fault.Form))
 

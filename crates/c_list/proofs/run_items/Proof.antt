@@ -5,7 +5,7 @@ use mathlib.Core.Path.{_≡_}
 use lib.ListN.{length, getD}
 use denote.Ref.{now}
 use borrow.Author.Needs.{needs}
-use Rattle.c_answer.specs.Writing.{asForm}
+use Rattle.c_answer.specs.Writing.{asFlat}
 use Rattle.c_session.specs.Reading.{sessionIn}
 use Rattle.c_list.proofs.Handing.{nothing-due, Under, begun, part-there, turn, ended}
 use Rattle.c_list.proofs.run_items.Statement.{statement}
@@ -70,7 +70,7 @@ hand-in-at-requires : tie.Need-hand-in-at-requires Inv-loop μ-loop
 hand-in-at-requires c κs =
     let test = c .before .before .before .before .before .before .before .before .before .before in
     let l = test .before .loop in (
-      nothing-due (sessionIn (asForm (l .session-bytes) (l .session))) (l .sram) (l .inv .ok),
+      nothing-due (sessionIn (asFlat (l .session-bytes) (l .session))) (l .sram) (l .inv .ok),
       omega (arith, l .inv .echo-room, test .loop-test .taken),
       omega (arith, l .inv .room, test .loop-test .taken),
     )

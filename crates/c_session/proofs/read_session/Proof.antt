@@ -8,7 +8,7 @@ use borrow.Author.Tests.{not-true, not-false}
 use borrow.Author.Needs.{needs}
 use Rattle.octets.specs.Same.{same}
 use Rattle.session_state.specs.declared.Session.{Session}
-use Rattle.c_answer.specs.Writing.{Form, asForm}
+use Rattle.c_answer.specs.Writing.{Flat, asFlat}
 use Rattle.c_session.specs.Writing.{sessionNumbers, sessionPlaces}
 use Rattle.c_session.specs.Reading.{sessionRead, encodes, unsoundSession, sessionIn}
 use Rattle.c_session.proofs.Lengths.{places}
@@ -16,12 +16,12 @@ use Rattle.c_session.proofs.read_session.Statement.{statement}
 use Rattle.c_session.proofs.read_session.Tie as tie
 
 -- without places no session is read
-unplaced : (form : Form) {r : Session} → sessionPlaces form ≡ false → r ≡ unsoundSession (form .numbers) → r ≡ sessionIn form
+unplaced : (form : Flat) {r : Session} → sessionPlaces form ≡ false → r ≡ unsoundSession (form .numbers) → r ≡ sessionIn form
 unfolding sessionIn encodes
 unplaced form e f = rw e f
 
 -- with them the comparison tells
-compared : (form : Form) {written : List ℕ} {read r : Session} {b : Bool} → sessionPlaces form ≡ true
+compared : (form : Flat) {written : List ℕ} {read r : Session} {b : Bool} → sessionPlaces form ≡ true
     → b ≡ same written (form .numbers)
     → written ≡ sessionNumbers read
     → read ≡ sessionRead form
@@ -43,7 +43,7 @@ unsound-requires c κs = search needs
 returns : tie.Need-returns
 returns c =
     let test = c .before in
-    let form = asForm (now (test .before .before .before .before .args .bytes)) (now (test .before .before .before .before .args .numbers)) in
+    let form = asFlat (now (test .before .before .before .before .args .bytes)) (now (test .before .before .before .before .args .numbers)) in
     unplaced form (sym (test .before .has-places .ensures) ∙ not-true (test .before .has-places .result) (test .if1 .taken)) (c .unsound .ensures)
 
 decode-requires : tie.Need-decode-requires
@@ -63,7 +63,7 @@ returns-2 c =
     let read = written .before in
     let test = read .before in
     let a = test .before .before .before .before .args in
-    compared (asForm (now (a .bytes)) (now (a .numbers))) (sym (test .before .has-places .ensures) ∙ not-false (test .before .has-places .result) (test .if1 .left))
+    compared (asFlat (now (a .bytes)) (now (a .numbers))) (sym (test .before .has-places .ensures) ∙ not-false (test .before .has-places .result) (test .if1 .left))
     (c .before .is-same .ensures) (written .session-numbers .ensures) (read .decode .ensures) true (c .if2 .taken) (read .decode .ensures)
 
 unsound-requires-2 : tie.Need-unsound-requires-2
@@ -76,7 +76,7 @@ returns-3 c =
     let read = written .before in
     let test = read .before in
     let a = test .before .before .before .before .args in
-    compared (asForm (now (a .bytes)) (now (a .numbers))) (sym (test .before .has-places .ensures) ∙ not-false (test .before .has-places .result) (test .if1 .left))
+    compared (asFlat (now (a .bytes)) (now (a .numbers))) (sym (test .before .has-places .ensures) ∙ not-false (test .before .has-places .result) (test .if1 .left))
     (compare .before .is-same .ensures) (written .session-numbers .ensures) (read .decode .ensures) false (compare .if2 .left) (c .unsound2 .ensures)
 
 pub read-session-spec : {M : Type 1} → statement M
