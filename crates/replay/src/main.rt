@@ -235,8 +235,8 @@ fn say_help() {
           2, 3, 4 and 12 stop the head; 10 is a damaged record, and ends the text.\n\
           \n\
           The last line says where the head is: end waiting, end password, end header,\n\
-          end data, end stopped N or end jump ADDRESS. Where it is missing, a read or a\n\
-          write has failed, and standard error says why.\n",
+          end data, end stopped N or end jump ADDRESS. Where it is missing, the file was\n\
+          not opened or a read or a write has failed, and standard error says why.\n",
     );
 }
 
