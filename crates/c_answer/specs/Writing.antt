@@ -59,7 +59,7 @@ answerWidth = 5
 
 -- places for an answer; and an answer that is written: lists of other lengths are left as they are
 abbrev pub answerPlaces : Flat → Bool
-answerPlaces form = eqb (length (form .bytes)) echoWidth && eqb (length (form .numbers)) answerWidth
+answerPlaces flat = eqb (length (flat .bytes)) echoWidth && eqb (length (flat .numbers)) answerWidth
 
 unfoldable pub answerPut : Answer → Flat → Flat
-answerPut answer form = cond (answerPlaces form) (answerFlat answer) form
+answerPut answer flat = cond (answerPlaces flat) (answerFlat answer) flat

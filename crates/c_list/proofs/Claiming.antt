@@ -3,21 +3,19 @@ use Prim.Native.Nat.{ℕ}
 use mathlib.Core.Path.{_≡_, refl, sym, ap, _∙_}
 use mathlib.Core.List.{List}
 use mathlib.Core.Bool.{Bool, true}
-use borrow.Author.Tests.{eq-eqb, ne-eqb}
+use borrow.Author.Tests.{ne-eqb}
 use lib.ListN.{length}
-use Rattle.session_configuration.specs.declared.Configuration.{Configuration}
 use Rattle.session_state.specs.declared.Session.{Session}
 use Rattle.session_answers.specs.declared.Prechecked.{Prechecked}
-use Rattle.session_answers.specs.Answers.{faultNumber, precheck}
+use Rattle.session_answers.specs.Answers.{precheck}
 use Rattle.session_answers.proofs.Laws.{precheck-passed, fault-some}
-use Rattle.session_fresh.specs.Fresh.{freshSession}
 use Rattle.session.specs.Running.{ran}
 use Rattle.session_merging.proofs.Stream.{demand-three}
 use Rattle.c_answer.specs.Writing.{Flat}
 use Rattle.c_session.specs.Reading.{sessionIn}
 use Rattle.c_session.proofs.Lengths.{password-eight}
 use Rattle.c_items.specs.Calls.{Reply, asReply, precheckNumber, itemPrecheck}
-use Rattle.c_list.specs.Calls.{itemsOf, listFits, listRan, listReply, ListMerged, ListClaim}
+use Rattle.c_list.specs.Calls.{itemsOf, listFits, listRan, listReply, ListClaim}
 
 -- nothing is due
 pub passes : (session : Session) (sram : List ℕ) (formed : Bool) → itemPrecheck session sram formed true ≡ 0

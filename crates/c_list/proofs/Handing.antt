@@ -216,6 +216,6 @@ module _ (bytes₀ numbers₀ sram₀ kinds identifiers counts bytes echoes₀ a
         let session = sessionIn (asFlat held numbers) in
         let rest = itemsOf (drop i kinds) (drop i identifiers) (drop i counts) (drop at bytes) in
         let nothing : rest ≡ [] = rw none-left in
-        let written = sound-written held numbers (u .ok .fine) .same-form in
+        let written = sound-written held numbers (u .ok .fine) .same-flat in
         let none-ran : (r : List Item) → r ≡ [] → asReply 0 (sessionFlat (ran session sram r .session)) (ran session sram r .sram) (asFlat (echoes ++ rowsOf echoBytes (ran session sram r .calls)) (answers ++ rowsOf answerNumbers (ran session sram r .calls))) ≡ asReply 0 (asFlat held numbers) sram (asFlat echoes answers) = λ r e. rw (e, append-nil echoes, append-nil answers, written) in
         rw (u .sessions, u .srams, u .echo-rows, u .rows, e-full, a-full) (sym (none-ran rest nothing))

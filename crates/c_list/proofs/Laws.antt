@@ -15,7 +15,7 @@ use Rattle.session_answers.specs.declared.Answer.{Answer}
 use Rattle.session_answers.specs.declared.Fault.{Fault}
 use Rattle.session_answers.specs.declared.Outcome.{Outcome}
 use Rattle.session_answers.specs.declared.Prechecked.{Prechecked}
-use Rattle.session_answers.specs.Answers.{Result, outcomeNumber, precheck, withoutEcho, unchanged}
+use Rattle.session_answers.specs.Answers.{outcomeNumber, precheck, unchanged}
 use Rattle.session_answers.proofs.Laws.{precheck-passed}
 use Rattle.session.specs.Rules.{step}
 use Rattle.session.proofs.Answered.{IsAnswer, answered, refused, step-number}

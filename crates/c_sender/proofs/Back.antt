@@ -1,7 +1,5 @@
 -- The bytes and numbers of a sender, read again.
-use Prim.Native.Nat.{ℕ}
 use mathlib.Core.Path.{_≡_, refl, sym, ap, _∙_}
-use mathlib.Core.List.{List, append-nil}
 use mathlib.Core.Bool.{Bool, true, false}
 use lib.ListN.{length}
 use Rattle.session_state.specs.declared.Port.{Port}

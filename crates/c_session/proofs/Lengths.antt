@@ -59,9 +59,9 @@ halves selected held bytes e f room =
     (sym (λ i. eight-whole selected e i ++ eight-whole held f i))
 
 -- bytes and numbers that read as a sound session are what it is written as
-pub record IsWritten (form : Flat) : Type 0 where
-  pub placed : sessionPlaces form ≡ true
-  pub same-form : sessionFlat (sessionIn form) ≡ form
+pub record IsWritten (flat : Flat) : Type 0 where
+  pub placed : sessionPlaces flat ≡ true
+  pub same-flat : sessionFlat (sessionIn flat) ≡ flat
 
 pub sound-written : (bytes numbers : List ℕ) → sound (sessionIn (asFlat bytes numbers)) ≡ true → IsWritten (asFlat bytes numbers)
 unfolding sessionIn encodes sound
@@ -71,21 +71,21 @@ sound-written bytes numbers fine = by (encodes (asFlat bytes numbers)) refl fine
         → sound (cond b (sessionRead (asFlat bytes numbers)) (unsoundSession numbers)) ≡ true
         → IsWritten (asFlat bytes numbers)
     by true e s =
-        let form = asFlat bytes numbers in
-        let both = and-eq-true-iff (sessionPlaces form) (same (sessionNumbers (sessionRead form)) numbers) .0 e in
+        let flat = asFlat bytes numbers in
+        let both = and-eq-true-iff (sessionPlaces flat) (same (sessionNumbers (sessionRead flat)) numbers) .0 e in
         record {
           placed = both .0;
-          same-form =
+          same-flat =
               rw e
-              (λ i. asFlat (sixteen bytes (places bytes numbers (both .0) .0) i) (same-equal (sessionNumbers (sessionRead form)) numbers (both .1) i));
+              (λ i. asFlat (sixteen bytes (places bytes numbers (both .0) .0) i) (same-equal (sessionNumbers (sessionRead flat)) numbers (both .1) i));
         }
     by false e s = absurd (false≢true s)
 
 -- the password of what is read has 8 bytes
-pub password-eight : (form : Flat) → length (sessionIn form .configuration .password) ≡ 8
+pub password-eight : (flat : Flat) → length (sessionIn flat .configuration .password) ≡ 8
 unfolding sessionIn
-password-eight form = either (encodes form)
+password-eight flat = either (encodes flat)
   where
-    either : (b : Bool) → length (cond b (sessionRead form) (unsoundSession (form .numbers)) .configuration .password) ≡ 8
+    either : (b : Bool) → length (cond b (sessionRead flat) (unsoundSession (flat .numbers)) .configuration .password) ≡ 8
     either true = refl
     either false = refl

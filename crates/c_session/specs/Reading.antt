@@ -57,17 +57,17 @@ abbrev pub configurationRead : List ℕ → List ℕ → Configuration
 configurationRead selected numbers = record { password = selected; entered = enteredOf (numberAt numbers 8) }
 
 abbrev pub sessionRead : Flat → Session
-sessionRead form =
+sessionRead flat =
     record {
-      configuration = configurationRead (firstEight (form .bytes)) (form .numbers);
-      stage = stageRead (form .numbers);
-      held = firstEight (drop 8 (form .bytes));
-      count = numberAt (form .numbers) 2 % 256;
+      configuration = configurationRead (firstEight (flat .bytes)) (flat .numbers);
+      stage = stageRead (flat .numbers);
+      held = firstEight (drop 8 (flat .bytes));
+      count = numberAt (flat .numbers) 2 % 256;
     }
 
 -- there are places for a session, and writing the session that they read as gives the same numbers again
 unfoldable pub encodes : Flat → Bool
-encodes form = sessionPlaces form && same (sessionNumbers (sessionRead form)) (form .numbers)
+encodes flat = sessionPlaces flat && same (sessionNumbers (sessionRead flat)) (flat .numbers)
 
 -- numbers of no session stand for one that is not sound: it waits and holds a byte, in the configuration that they name, with no password
 abbrev pub unsoundSession : List ℕ → Session
@@ -80,7 +80,7 @@ unsoundSession numbers =
     }
 
 unfoldable pub sessionIn : Flat → Session
-sessionIn form = cond (encodes form) (sessionRead form) (unsoundSession (form .numbers))
+sessionIn flat = cond (encodes flat) (sessionRead flat) (unsoundSession (flat .numbers))
 
 -- what `c_session::put_session` promises of bytes and numbers before and after it: the session is written, if they are as many as it has, and
 -- what a session is written as is read as that session

@@ -69,7 +69,7 @@ sessionWidth = 9
 
 -- places for a session; and a session that is written: lists of other lengths are left as they are
 abbrev pub sessionPlaces : Flat → Bool
-sessionPlaces form = eqb (length (form .bytes)) sessionBytesWidth && eqb (length (form .numbers)) sessionWidth
+sessionPlaces flat = eqb (length (flat .bytes)) sessionBytesWidth && eqb (length (flat .numbers)) sessionWidth
 
 unfoldable pub sessionPut : Session → Flat → Flat
-sessionPut session form = cond (sessionPlaces form) (sessionFlat session) form
+sessionPut session flat = cond (sessionPlaces flat) (sessionFlat session) flat

@@ -16,22 +16,22 @@ use Rattle.c_session.proofs.read_session.Statement.{statement}
 use Rattle.c_session.proofs.read_session.Tie as tie
 
 -- without places no session is read
-unplaced : (form : Flat) {r : Session} → sessionPlaces form ≡ false → r ≡ unsoundSession (form .numbers) → r ≡ sessionIn form
+unplaced : (flat : Flat) {r : Session} → sessionPlaces flat ≡ false → r ≡ unsoundSession (flat .numbers) → r ≡ sessionIn flat
 unfolding sessionIn encodes
-unplaced form e f = rw e f
+unplaced flat e f = rw e f
 
 -- with them the comparison tells
-compared : (form : Flat) {written : List ℕ} {read r : Session} {b : Bool} → sessionPlaces form ≡ true
-    → b ≡ same written (form .numbers)
+compared : (flat : Flat) {written : List ℕ} {read r : Session} {b : Bool} → sessionPlaces flat ≡ true
+    → b ≡ same written (flat .numbers)
     → written ≡ sessionNumbers read
-    → read ≡ sessionRead form
+    → read ≡ sessionRead flat
     → (t : Bool)
     → b ≡ t
-    → r ≡ cond t (sessionRead form) (unsoundSession (form .numbers))
-    → r ≡ sessionIn form
+    → r ≡ cond t (sessionRead flat) (unsoundSession (flat .numbers))
+    → r ≡ sessionIn flat
 unfolding sessionIn encodes
-compared form there e f g t h k =
-    let told : same (sessionNumbers (sessionRead form)) (form .numbers) ≡ t = sym (ap (λ w. same w (form .numbers)) (f ∙ ap sessionNumbers g)) ∙ sym e ∙ h in
+compared flat there e f g t h k =
+    let told : same (sessionNumbers (sessionRead flat)) (flat .numbers) ≡ t = sym (ap (λ w. same w (flat .numbers)) (f ∙ ap sessionNumbers g)) ∙ sym e ∙ h in
     rw (there, told) k
 
 has-places-requires : tie.Need-has-places-requires
@@ -43,8 +43,8 @@ unsound-requires c κs = search needs
 returns : tie.Need-returns
 returns c =
     let test = c .before in
-    let form = asFlat (now (test .before .before .before .before .args .bytes)) (now (test .before .before .before .before .args .numbers)) in
-    unplaced form (sym (test .before .has-places .ensures) ∙ not-true (test .before .has-places .result) (test .if1 .taken)) (c .unsound .ensures)
+    let flat = asFlat (now (test .before .before .before .before .args .bytes)) (now (test .before .before .before .before .args .numbers)) in
+    unplaced flat (sym (test .before .has-places .ensures) ∙ not-true (test .before .has-places .result) (test .if1 .taken)) (c .unsound .ensures)
 
 decode-requires : tie.Need-decode-requires
 decode-requires c κs =
