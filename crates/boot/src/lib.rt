@@ -1,5 +1,7 @@
 // The boot choice (01, "Choosing how to boot"; 000, 16.3.2): from BOOTCFG, the flash, the shadow row and the first bytes of external
 // memory to how the head boots.
+#![tactic(auto)]
+
 ghost use Rattle.std.specs.Prelude.{◌≡◌};
 ghost use Rattle.boot.specs.Choosing.{allowed, boot_from, serial_boot, settled, chosen};
 ghost use Rattle.boot.specs.Claim.{ChoiceClaim};
@@ -9,7 +11,7 @@ use boot_table::{Asked, Row};
 use session_configuration::Entered;
 
 // How the head boots.
-#[derive(Drop)]
+#[derive(Clone, Copy)]
 pub enum Mode {
     Internal,
     External,
@@ -17,7 +19,7 @@ pub enum Mode {
 }
 
 // How the head boots, from where, and what is on.
-#[derive(Drop)]
+#[derive(Clone, Copy)]
 pub struct Boot {
     pub mode: Mode,
     pub place: u32,
@@ -30,14 +32,14 @@ pub struct Boot {
 }
 
 // The answer: number 9, or number 0 with the boot (`choice_number` of specs/).
-#[derive(Drop)]
+#[derive(Clone, Copy)]
 pub enum Answer {
     Refused,
     Boots(Boot),
 }
 
 // The answer with the password selected, which is zeroes where the call was refused.
-#[derive(Drop)]
+#[derive(Clone, Copy)]
 pub struct Choice {
     pub answer: Answer,
     pub password: [u8; 8],

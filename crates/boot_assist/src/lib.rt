@@ -1,4 +1,6 @@
 // The C interface (include/boot_assist.h): the names of the calls.
+#![tactic(auto)]
+
 ghost use Rattle.std.specs.Prelude.{◌≡◌, [], ◌∷◌};
 ghost use Rattle.capture.specs.Located.{as_located, located_at};
 ghost use Rattle.session_items.specs.declared.Source.{Source};

@@ -1,9 +1,11 @@
 // The places where a reset configuration half word is searched for (01, "Choosing how to boot"; 000, 16.3.2.1.1 and 16.3.2.2.5).
+#![tactic(auto)]
+
 ghost use Rattle.std.specs.Prelude.{◌≡◌};
 ghost use Rattle.boot_rchw.specs.Places.{flash_places, external_places, good_place, searched};
 
 // What the search of the places found, and how many it examined.
-#[derive(Drop)]
+#[derive(Clone, Copy)]
 pub struct Search {
     pub found: bool,
     pub place: u32,

@@ -1,9 +1,11 @@
 // The table of what BOOTCFG and the control that matters fix (01, "Choosing how to boot"; 000, Table 16-3).
+#![tactic(auto)]
+
 ghost use Rattle.std.specs.Prelude.{◌≡◌};
 ghost use Rattle.boot_table.specs.Table.{asked_by, control_55aa, row_of, row_for};
 
 // What BOOTCFG asks for.
-#[derive(Drop)]
+#[derive(Clone, Copy)]
 pub enum Asked {
     Internal,
     Serial,
@@ -11,7 +13,7 @@ pub enum Asked {
 }
 
 // What a row of the boot table fixes: whether flash and Nexus are on, and the password selected.
-#[derive(Drop)]
+#[derive(Clone, Copy)]
 pub struct Row {
     pub flash: bool,
     pub nexus: bool,

@@ -1,4 +1,6 @@
 // Bytes and numbers written over the first places of a slice, and bytes moved to its start.
+#![tactic(auto)]
+
 ghost use Rattle.std.specs.Prelude.{◌≡◌, ◌-◌, ◌≤◌, length, drop};
 ghost use Rattle.octets.specs.Read.{first_eight};
 ghost use Rattle.buffers.specs.Write.{over, filled};
@@ -11,10 +13,10 @@ fn copy_bytes(out: &mut [u8], bytes: &[u8])
 {
     if bytes.len() == 8 {
         let eight = octets::first_eight(bytes);
-        bytes::copy(&eight[..], out);
+        out[..8].copy_from_slice(&eight[..]);
         return;
     }
-    bytes::copy(bytes, out);
+    out[..bytes.len()].copy_from_slice(bytes);
 }
 
 // Writes bytes over the first places of a slice, or nothing where there is no room for them.

@@ -1,4 +1,6 @@
 // Answers, and what else crosses the C interface, as bytes and numbers (include/boot_assist.h).
+#![tactic(auto)]
+
 ghost use Rattle.std.specs.Prelude.{◌≡◌};
 ghost use Rattle.c_answer.specs.Writing.{bit, entered_number, entered_of, as_flat, jump_numbers, answer_numbers, answer_places, answer_put};
 

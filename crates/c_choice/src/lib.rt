@@ -1,4 +1,6 @@
 // The boot choice, and the session that it gives, on bytes, numbers and lent outputs, as the C interface has them (include/boot_assist.h).
+#![tactic(auto)]
+
 ghost use Rattle.std.specs.Prelude.{◌≡◌, length};
 ghost use Rattle.c_answer.specs.Writing.{as_flat};
 ghost use Rattle.c_choice.specs.Numbers.{mode_number, mode_of, boot_numbers};

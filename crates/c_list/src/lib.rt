@@ -1,5 +1,7 @@
 // The call for a list of items on bytes, numbers and lent memory, as the C interface has it (include/boot_assist.h), with the promise of
 // demand 3 (00) about the whole list.
+#![tactic(auto)]
+
 ghost use Rattle.std.specs.Prelude.{◌≡◌, ◌+◌, ◌*◌, ◌≤◌, true, length};
 ghost use Rattle.session_items.specs.Items.{Item};
 ghost use Rattle.session_answers.specs.declared.Fault.{Fault};

@@ -1,4 +1,6 @@
 // The calls of a sender on bytes, numbers and lent outputs, as the C interface has them (include/boot_assist.h).
+#![tactic(auto)]
+
 ghost use Rattle.std.specs.Prelude.{◌≡◌, true};
 ghost use Rattle.sender.specs.declared.TellAnswer.{TellAnswer};
 ghost use Rattle.c_answer.specs.Writing.{as_flat};

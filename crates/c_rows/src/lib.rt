@@ -1,4 +1,6 @@
 // The MMU rows of a choice and of a session on bytes, numbers and a lent output, as the C interface has them (include/boot_assist.h).
+#![tactic(auto)]
+
 ghost use Rattle.std.specs.Prelude.{◌≡◌, length};
 ghost use Rattle.c_answer.specs.Writing.{as_flat};
 ghost use Rattle.c_rows.specs.Numbers.{row_numbers, table_numbers};

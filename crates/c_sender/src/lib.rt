@@ -1,4 +1,6 @@
 // Senders, items and verdicts as bytes and numbers, as they cross the C interface (include/boot_assist.h).
+#![tactic(auto)]
+
 ghost use Rattle.std.specs.Prelude.{◌≡◌};
 ghost use Rattle.c_answer.specs.Writing.{as_flat};
 ghost use Rattle.c_sender.specs.Numbers.{sender_numbers, flag_of, port_for, sender_read, identifier_of, item_numbers, verdict_number};

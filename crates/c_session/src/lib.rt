@@ -1,4 +1,6 @@
 // Sessions as bytes and numbers, written and read, as they cross the C interface (include/boot_assist.h).
+#![tactic(auto)]
+
 ghost use Rattle.std.specs.Prelude.{◌≡◌, length};
 ghost use Rattle.octets.specs.Same.{same};
 ghost use Rattle.c_answer.specs.Writing.{as_flat};

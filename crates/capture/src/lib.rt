@@ -1,10 +1,12 @@
 // The reader of the truck's capture file (01, "The truck's capture file").
+#![tactic(auto)]
+
 ghost use Rattle.std.specs.Prelude.{◌≡◌};
 ghost use Rattle.capture.specs.Records.{fits_kind, fits_can, good_record, header_found, reads, body_at, beyond, as_read};
 ghost use Rattle.capture.specs.Located.{located_at, as_located};
 
 // The header of a record: its kind and its body's length, or one that is not whole or breaks the rules.
-#[derive(Drop)]
+#[derive(Clone, Copy)]
 pub enum RecordHeader {
     Good(u8, usize),
     Bad,

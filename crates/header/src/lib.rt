@@ -1,4 +1,6 @@
 // The header of a load (01, "A serial session"; 003).
+#![tactic(auto)]
+
 ghost use Rattle.std.specs.Prelude.{◌≡◌};
 ghost use Rattle.header.specs.Reading.{header_read, validated};
 
@@ -7,7 +9,7 @@ use session_state::Refusal;
 use sram::Aligned;
 
 // Where a load starts, whether it is VLE code, and how many bytes it announces.
-#[derive(Drop)]
+#[derive(Clone, Copy)]
 pub struct Header {
     pub start: Aligned,
     pub vle: bool,
@@ -15,7 +17,7 @@ pub struct Header {
 }
 
 // A header that is refused, with 3 or 4 (`session_answers: Answers.refusal_number` gives the number), or one that fits.
-#[derive(Drop)]
+#[derive(Clone, Copy)]
 pub enum Validated {
     Refused(Refusal),
     Fits(Header),

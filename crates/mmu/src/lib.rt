@@ -1,5 +1,7 @@
 // The MMU rows (01, "MMU rows"; 000, Table 16-2) of internal boot, and of serial boot entered directly or from internal: those of a choice,
 // and those of a session.
+#![tactic(auto)]
+
 ghost use Rattle.std.specs.Prelude.{◌≡◌};
 ghost use Rattle.mmu.specs.Rows.{table_row, internal_rows, has_external_rows, refused, mapping_for, choice_rows, session_rows};
 
@@ -8,7 +10,7 @@ use session_configuration::Entered;
 use session_state::Session;
 
 // One MMU entry: base addresses, size in bytes, and attributes.
-#[derive(Drop)]
+#[derive(Clone, Copy)]
 pub struct Row {
     pub logical: u32,
     pub physical: u32,
@@ -21,7 +23,7 @@ pub struct Row {
 }
 
 // The answer: number 0 with entries 0 to 4, or number 8 or 11 with zeroes.
-#[derive(Drop)]
+#[derive(Clone, Copy)]
 pub struct Mapping {
     pub number: u8,
     pub rows: [Row; 5],

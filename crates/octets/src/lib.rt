@@ -1,5 +1,7 @@
 // Reads of a byte and of big-endian numbers that answer for every place of every slice; a number as its bytes; and differences and least
 // numbers, which answer for all numbers.
+#![tactic(auto)]
+
 ghost use Rattle.std.specs.Prelude.{◌≡◌, ◌+◌, ◌-◌, ◌*◌, min};
 ghost use Rattle.octets.specs.Read.{byte_at, half_at, word_at, first_eight};
 ghost use Rattle.octets.specs.Bytes.{word_bytes};

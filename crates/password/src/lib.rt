@@ -1,4 +1,6 @@
 // The password check (01, "A serial session"; 003).
+#![tactic(auto)]
+
 ghost use Rattle.std.specs.Prelude.{◌≡◌};
 ghost use Rattle.octets.specs.Same.{same};
 ghost use Rattle.password.specs.Passing.{allowed_half, legal, passes};

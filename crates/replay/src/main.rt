@@ -1,5 +1,7 @@
 // `replay`: a capture from a file or standard input, its text on standard output (01, "The truck's capture file"). The work is in
 // `replay_window`; this program only reads, calls and writes.
+#![tactic(auto)]
+
 ghost use Rattle.std.specs.Prelude.{◌≤◌, length};
 
 use libc::{STDERR_FILENO, STDIN_FILENO, STDOUT_FILENO};
@@ -7,7 +9,7 @@ use replay_record::Progress;
 
 // What a read brought: how many bytes are to be played behind those that the window held, whether the input has ended, and whether the
 // read failed.
-#[derive(Drop)]
+#[derive(Clone, Copy)]
 struct Input {
     count: usize,
     last: bool,
@@ -16,7 +18,7 @@ struct Input {
 
 // What is kept from window to window: how far the program is, whether the input has ended, and whether the text has, or a read or a
 // write has failed.
-#[derive(Drop)]
+#[derive(Clone, Copy)]
 struct Run {
     progress: Progress,
     last: bool,
@@ -24,7 +26,7 @@ struct Run {
 }
 
 // How much of the output is written, and whether a write failed.
-#[derive(Drop)]
+#[derive(Clone, Copy)]
 struct Sent {
     done: usize,
     failed: bool,

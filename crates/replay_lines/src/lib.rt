@@ -1,5 +1,7 @@
 // The lines of text that the program prints (01, "The truck's capture file"). A line is written from its end: each piece is put
 // in front of what is there already.
+#![tactic(auto)]
+
 ghost use Rattle.std.specs.Prelude.{◌≡◌, ◌*◌, ◌≤◌, ◌<◌, [], ◌∷◌, ◌++◌, length, take};
 ghost use Rattle.replay_lines.specs.Digits.{ascii, decimal, hex_digit, hex_of};
 ghost use Rattle.replay_lines.specs.Lines.{echo_text, record_line, last_line};

@@ -1,5 +1,7 @@
 // What the program keeps and begins a capture with, and what a record of it does (01, "The truck's capture file"): it is read and handed to
 // the session.
+#![tactic(auto)]
+
 ghost use Rattle.std.specs.Prelude.{◌≡◌};
 ghost use Rattle.capture.specs.Records.{found};
 ghost use Rattle.session_answers.specs.Answers.{result_of};
@@ -11,7 +13,7 @@ use session_state::Session;
 
 // How far the program is between two windows of a capture: how much of the output is text, how many bytes of the window are unread,
 // which are at its start, whether the text has ended, the ordinal of the next record, which is 1 for the first, and the session.
-#[derive(Drop)]
+#[derive(Clone, Copy)]
 pub struct Progress {
     pub used: usize,
     pub unread: usize,
@@ -41,7 +43,7 @@ pub fn zeroed_sram() -> [u8; 65536]
 }
 
 // What the reader found of a record: the reader's number, its kind or the end mark, and how many bytes it has; and the result of its step.
-#[derive(Drop)]
+#[derive(Clone, Copy)]
 pub struct Handled {
     pub read: u8,
     pub kind: u8,

@@ -1,5 +1,7 @@
 // The text for a window of a capture (01, "The truck's capture file"): each record is handled and its line is printed, and what is left
 // of the window is moved to its start.
+#![tactic(auto)]
+
 ghost use Rattle.std.specs.Prelude.{◌≡◌, true, false, ◌+◌, ◌-◌, ◌≤◌, ◌<◌, [], length};
 ghost use Rattle.session_answers.specs.Answers.{outcome_number};
 ghost use Rattle.replay_lines.specs.Lines.{record_line, last_line};
@@ -16,7 +18,7 @@ use session_state::{Session, Stage};
 
 // How far a call is: the next position in the window, how much of the output is used, whether the text has ended, and the ordinal of
 // the next record.
-#[derive(Drop)]
+#[derive(Clone, Copy)]
 pub struct Turn {
     pub at: usize,
     pub used: usize,
@@ -25,7 +27,7 @@ pub struct Turn {
 }
 
 // What a call returns: how far it is, and the session.
-#[derive(Drop)]
+#[derive(Clone, Copy)]
 pub struct Played {
     pub turn: Turn,
     pub session: Session,

@@ -1,4 +1,6 @@
 // The truck's side (02, E1): a load is begun, its items are asked for, and the echoes told.
+#![tactic(auto)]
+
 ghost use Rattle.std.specs.Prelude.{◌≡◌, true, length};
 ghost use Rattle.sender_load.specs.Items.{sound_load};
 ghost use Rattle.sender.specs.Calls.{begun_number, asked_number, told_number, head_with, idle, load_begun, gives_none, asked, tells, echo_told, told};
@@ -10,14 +12,14 @@ use session_items::Source;
 use session_state::{Port, Refusal};
 
 // What beginning a load says: it goes, or it is refused as the head would refuse its header.
-#[derive(Drop)]
+#[derive(Clone, Copy)]
 pub enum BeginAnswer {
     Goes,
     Refused(Refusal),
 }
 
 // What asking says: the item is given, or no load is going, or the load is not sound.
-#[derive(Drop)]
+#[derive(Clone, Copy)]
 pub enum AskAnswer {
     Gives,
     Ignored,
@@ -25,7 +27,7 @@ pub enum AskAnswer {
 }
 
 // What becomes of a load.
-#[derive(Drop)]
+#[derive(Clone, Copy)]
 pub enum Verdict {
     GoesOn,
     Done,
@@ -33,7 +35,7 @@ pub enum Verdict {
 }
 
 // What telling says: what becomes of the load, or that no item is out, or that the load is not sound.
-#[derive(Drop)]
+#[derive(Clone, Copy)]
 pub enum TellAnswer {
     Says(Verdict),
     Ignored,
@@ -41,20 +43,20 @@ pub enum TellAnswer {
 }
 
 // What each call gives: what it says, the item that is asked for, and the sender after the call.
-#[derive(Drop)]
+#[derive(Clone, Copy)]
 pub struct BeginResult {
     pub answer: BeginAnswer,
     pub sender: Sender,
 }
 
-#[derive(Drop)]
+#[derive(Clone, Copy)]
 pub struct AskResult {
     pub answer: AskAnswer,
     pub sent: Sent,
     pub sender: Sender,
 }
 
-#[derive(Drop)]
+#[derive(Clone, Copy)]
 pub struct TellResult {
     pub answer: TellAnswer,
     pub sender: Sender,

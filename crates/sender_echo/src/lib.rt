@@ -1,4 +1,6 @@
 // When what the truck hears is the echo that it waits for (02, E1).
+#![tactic(auto)]
+
 ghost use Rattle.std.specs.Prelude.{◌≡◌};
 ghost use Rattle.octets.specs.Same.{same};
 ghost use Rattle.sender_echo.specs.Hearing.{heard_under, is_echo};

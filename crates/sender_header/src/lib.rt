@@ -1,4 +1,6 @@
 // The header of a load as its sender writes it, and what the head would make of it (02, E1).
+#![tactic(auto)]
+
 ghost use Rattle.std.specs.Prelude.{◌≡◌};
 ghost use Rattle.header.specs.Reading.{validated};
 ghost use Rattle.sender_header.specs.Writing.{Written, length_word, header_meant};

@@ -1,4 +1,6 @@
 // A load that is being sent (02, E1): its items, their echoes, and when it is sound.
+#![tactic(auto)]
+
 ghost use Rattle.std.specs.Prelude.{◌≡◌, take, drop};
 ghost use Rattle.header.specs.Reading.{fits};
 ghost use Rattle.session_answers.specs.Answers.{echo_of};
@@ -14,7 +16,7 @@ use session_state::{Load, Port};
 // A sender: whether a load is going; the head's configuration as far as the truck knows it, which has the password to send; the port;
 // the start as given and the VLE bit; the length of the image that the load was begun with; the place of the item that is out, or else of the
 // next one; and whether one is out.
-#[derive(Drop)]
+#[derive(Clone, Copy)]
 pub struct Sender {
     pub going: bool,
     pub configuration: Configuration,
@@ -27,7 +29,7 @@ pub struct Sender {
 }
 
 // An item that is sent: its source, and its bytes, which are the first `length` of `bytes`.
-#[derive(Drop)]
+#[derive(Clone, Copy)]
 pub struct Sent {
     pub source: Source,
     pub length: u8,

@@ -1,4 +1,6 @@
 // What an item does to a session and to SRAM (01, "A serial session"; 02, E2).
+#![tactic(auto)]
+
 ghost use Rattle.std.specs.Prelude.{◌≡◌, ◌+◌, ◌≤◌, true, length};
 ghost use Rattle.buffers.specs.Write.{over};
 ghost use Rattle.sram.specs.Region.{right_size};
@@ -13,7 +15,7 @@ use session_items::{Reaction, Role, Source};
 use session_state::{Jump, Load, Port, Refusal, Session, Stage};
 
 // What the bytes taken do: the outcome, and the session after them.
-#[derive(Drop)]
+#[derive(Clone, Copy)]
 pub struct Transition {
     pub outcome: Outcome,
     pub session: Session,

@@ -1,5 +1,7 @@
 // What the head says back (01, "What the head says back"): the answer to an item, with its number and its echo, and the precheck that comes
 // before the session's rules.
+#![tactic(auto)]
+
 ghost use Rattle.std.specs.Prelude.{◌≡◌, take};
 ghost use Rattle.session_answers.specs.Answers.{refusal_number, fault_number, outcome_number, precheck, under_port, echo_under, no_echo, echo_identifier, echo_of, without_echo, nothing_taken};
 
@@ -7,7 +9,7 @@ use session_items::Role;
 use session_state::{Jump, Port, Refusal, Session};
 
 // The echo: the first `length` of `bytes`, for CAN under an identifier, which is 0 for serial and where nothing is echoed.
-#[derive(Drop)]
+#[derive(Clone, Copy)]
 pub struct Echo {
     pub identifier: u32,
     pub length: u8,
@@ -15,7 +17,7 @@ pub struct Echo {
 }
 
 // Why a call is refused: the item's form, the size of SRAM, or a session that is not sound.
-#[derive(Drop)]
+#[derive(Clone, Copy)]
 pub enum Fault {
     Form,
     Size,
@@ -23,14 +25,14 @@ pub enum Fault {
 }
 
 // What comes before the session's rules.
-#[derive(Drop)]
+#[derive(Clone, Copy)]
 pub enum Prechecked {
     Passed,
     Refused(Fault),
 }
 
 // What becomes of an item (`outcome_number` of specs/ gives the number).
-#[derive(Drop)]
+#[derive(Clone, Copy)]
 pub enum Outcome {
     Taken,
     Ignored,
@@ -40,14 +42,14 @@ pub enum Outcome {
 }
 
 // The answer to an item.
-#[derive(Drop)]
+#[derive(Clone, Copy)]
 pub struct Answer {
     pub outcome: Outcome,
     pub echo: Echo,
 }
 
 // The result of a step: the answer, and the session after it.
-#[derive(Drop)]
+#[derive(Clone, Copy)]
 pub struct StepResult {
     pub answer: Answer,
     pub session: Session,

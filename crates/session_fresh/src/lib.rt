@@ -1,4 +1,6 @@
 // Where a session comes from: a serial choice (01, "The words of demand 3"), or a reset in a capture.
+#![tactic(auto)]
+
 ghost use Rattle.std.specs.Prelude.{◌≡◌};
 ghost use Rattle.session_fresh.specs.Fresh.{fresh_session, configured, reset_session, no_session, fresh_in};
 
@@ -7,7 +9,7 @@ use session_configuration::{Configuration, Entered};
 use session_state::{Session, Stage};
 
 // A session from a boot choice, and whether that choice is serial.
-#[derive(Drop)]
+#[derive(Clone, Copy)]
 pub struct Start {
     pub serial: bool,
     pub session: Session,

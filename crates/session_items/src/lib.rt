@@ -1,4 +1,6 @@
 // Items (01, "A serial session"): which are refused for their form, what a stage does with one, and an item by its kind.
+#![tactic(auto)]
+
 ghost use Rattle.std.specs.Prelude.{◌≡◌};
 ghost use Rattle.octets.specs.Read.{half_at};
 ghost use Rattle.session_items.specs.Items.{Item, well_formed, port_from, is_item, mark_of, source_of, leading};
@@ -7,14 +9,14 @@ ghost use Rattle.session_items.specs.Reacting.{eight_under, data_fitting, clean_
 use session_state::{Load, Port, Stage};
 
 // Where an item's bytes come from: a CAN frame with an identifier, or the serial line with a mark, which is 0 for a clean byte.
-#[derive(Drop)]
+#[derive(Clone, Copy)]
 pub enum Source {
     Can(u32),
     Serial(u32),
 }
 
 // What an item that is taken is: the password or a part of it, the header or a part of it, or data of a load.
-#[derive(Drop)]
+#[derive(Clone, Copy)]
 pub enum Role {
     Password,
     Header,
@@ -22,7 +24,7 @@ pub enum Role {
 }
 
 // What a stage does with an item.
-#[derive(Drop)]
+#[derive(Clone, Copy)]
 pub enum Reaction {
     Ignores,
     Takes(Role, Port),

@@ -1,5 +1,7 @@
 // The stages of a serial session (01, "A serial session"): what a session holds, when it is sound, and the VLE bit of the header that it
 // has accepted.
+#![tactic(auto)]
+
 ghost use Rattle.std.specs.Prelude.{◌≡◌};
 ghost use Rattle.session_state.specs.Sound.{load_fits, sound};
 ghost use Rattle.session_state.specs.Accepted.{accepted_vle};
@@ -8,14 +10,14 @@ use session_configuration::Configuration;
 use sram::Aligned;
 
 // The two ports.
-#[derive(Drop)]
+#[derive(Clone, Copy)]
 pub enum Port {
     Can,
     Serial,
 }
 
 // A load that has begun: where it starts, whether it is VLE code, the next address and how many bytes are still owed.
-#[derive(Drop)]
+#[derive(Clone, Copy)]
 pub struct Load {
     pub start: Aligned,
     pub vle: bool,
@@ -24,7 +26,7 @@ pub struct Load {
 }
 
 // Where the head jumps, and whether to VLE code.
-#[derive(Drop)]
+#[derive(Clone, Copy)]
 pub struct Jump {
     pub start: Aligned,
     pub vle: bool,
@@ -32,7 +34,7 @@ pub struct Jump {
 
 // What stopped a session: a password that did not pass, a length of 0, a load not wholly in SRAM, or a faulty byte, with the VLE bit of the
 // header that had been accepted before it, which is clear if none had.
-#[derive(Drop)]
+#[derive(Clone, Copy)]
 pub enum Refusal {
     Password,
     Length,
@@ -41,7 +43,7 @@ pub enum Refusal {
 }
 
 // The stages.
-#[derive(Drop)]
+#[derive(Clone, Copy)]
 pub enum Stage {
     Waiting,
     Password,
@@ -53,7 +55,7 @@ pub enum Stage {
 
 // A session: what the boot choice fixed for it, its stage, and the password or header bytes held so far, which are the first `count`
 // of `held`.
-#[derive(Drop)]
+#[derive(Clone, Copy)]
 pub struct Session {
     pub configuration: Configuration,
     pub held: [u8; 8],

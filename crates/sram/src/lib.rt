@@ -1,11 +1,13 @@
 // SRAM: where it lies, and bytes stored in it (01, "A serial session").
+#![tactic(auto)]
+
 ghost use Rattle.std.specs.Prelude.{◌≡◌, ◌/◌, ◌*◌};
 ghost use Rattle.sram.specs.Region.{size, right_size, in_range, aligned, stored_in_range};
 
 use session_configuration::Configuration;
 
 // An address that stands for a start, whose two lowest bits are dropped; `is_aligned` tests one that was handed in.
-#[derive(Drop)]
+#[derive(Clone, Copy)]
 pub struct Aligned(pub u32);
 
 const BASE: u32 = 0x4000_0000;

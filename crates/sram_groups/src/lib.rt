@@ -1,4 +1,6 @@
 // SRAM written in groups of 8 bytes (02, E4): how many bytes of an unfinished group are held, and what is stored of it.
+#![tactic(auto)]
+
 ghost use Rattle.std.specs.Prelude.{◌≡◌, ◌++◌, ◌+◌, ◌*◌, ◌/◌, ◌%◌, ◌≤◌, max, length, take};
 ghost use Rattle.buffers.specs.Write.{over, over_from};
 ghost use Rattle.sram.specs.Region.{stored_in_range};
