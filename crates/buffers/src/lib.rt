@@ -20,6 +20,7 @@ fn copy_bytes(out: &mut [u8], bytes: &[u8])
 }
 
 // Writes bytes over the first places of a slice, or nothing where there is no room for them.
+#[tactic(auto, unfolding(crate::specs::Write::filled))]
 pub fn fill(out: &mut [u8], bytes: &[u8])
     ensures { out.new ≡ filled bytes.now out.old }
 {
@@ -66,6 +67,7 @@ fn copy_words(out: &mut [u32], words: &[u32])
 }
 
 // `fill` for numbers.
+#[tactic(auto, unfolding(crate::specs::Write::filled))]
 pub fn fill_words(out: &mut [u32], words: &[u32])
     ensures { out.new ≡ filled words.now out.old }
 {

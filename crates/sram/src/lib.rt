@@ -13,6 +13,7 @@ pub struct Aligned(pub u32);
 const BASE: u32 = 0x4000_0000;
 
 // How many bytes SRAM has.
+#[tactic(auto, unfolding(crate::specs::Region::size))]
 fn size_for(configuration: Configuration) -> u32
     ensures { result ≡ size configuration }
 {
@@ -20,6 +21,7 @@ fn size_for(configuration: Configuration) -> u32
 }
 
 // Whether a memory has SRAM's size.
+#[tactic(auto, unfolding(crate::specs::Region::size))]
 pub fn is_whole(configuration: Configuration, sram: &[u8]) -> bool
     ensures { result ≡ right_size configuration sram.now }
 {
@@ -27,6 +29,7 @@ pub fn is_whole(configuration: Configuration, sram: &[u8]) -> bool
 }
 
 // Whether `count` bytes from an address lie wholly in SRAM.
+#[tactic(auto, unfolding(crate::specs::Region::in_range, crate::specs::Region::base, crate::specs::Region::size))]
 pub fn is_in_range(configuration: Configuration, address: u32, count: u32) -> bool
     ensures { result ≡ in_range configuration address count }
 {
@@ -35,6 +38,7 @@ pub fn is_in_range(configuration: Configuration, address: u32, count: u32) -> bo
 }
 
 // Whether an address is a multiple of 4 in SRAM.
+#[tactic(auto, unfolding(crate::specs::Region::aligned))]
 pub fn is_aligned(configuration: Configuration, address: Aligned) -> bool
     ensures { result ≡ aligned configuration address.0 }
 {
@@ -50,6 +54,7 @@ pub fn align(address: u32) -> Aligned
 
 // Stores bytes from an address on: the part of SRAM from there is lent on and receives them. If not all of them are in range, none
 // is stored.
+#[tactic(auto, unfolding(crate::specs::Region::stored_in_range, crate::specs::Region::in_range, crate::specs::Region::base))]
 pub fn store(configuration: Configuration, sram: &mut [u8], address: u32, bytes: &[u8])
     ensures { sram.new ≡ stored_in_range configuration sram.old address bytes.now }
 {
