@@ -75,6 +75,7 @@ fn does_load_fit(configuration: Configuration, load: Load) -> bool
 }
 
 // Whether a session's counts fit its stage.
+#[tactic(auto, unfolding(crate::specs::Sound::sound))]
 pub fn is_sound(session: Session) -> bool
     ensures { result ≡ sound session }
 {
