@@ -37,6 +37,7 @@ fn read(configuration: Configuration, bytes: [u8; 8]) -> Header
 }
 
 // Whether a header fits.
+#[tactic(auto, unfolding(crate::specs::Reading::validated))]
 fn check(configuration: Configuration, header: Header) -> Validated
     ensures { result ≡ validated configuration header }
 {

@@ -162,6 +162,7 @@ pub fn take_nothing(session: Session, outcome: Outcome) -> StepResult
 }
 
 // What comes before the session's rules: 7, then 8, then 6 for what is handed in where it is not of the right form.
+#[tactic(auto, unfolding(crate::specs::Answers::precheck))]
 pub fn precheck(session: Session, sram: &[u8], formed: bool) -> Prechecked
     ensures { result ≡ precheck session sram.now formed }
 {

@@ -144,6 +144,7 @@ fn hear_opened(role: Role, port: Port, source: Source, bytes: &[u8]) -> Reaction
 }
 
 // What a stage does with an item.
+#[tactic(auto, unfolding(crate::specs::Reacting::reaction))]
 pub fn react(stage: Stage, source: Source, bytes: &[u8]) -> Reaction
     ensures { result ≡ reaction stage (Item.Of source bytes.now) }
 {
@@ -175,6 +176,7 @@ fn mark_of(kind: u8) -> u32
 }
 
 // The source of an item of a kind.
+#[tactic(auto, unfolding(crate::specs::Items::source_of))]
 pub fn source_of(kind: u8, identifier: u32) -> Source
     ensures { result ≡ source_of kind identifier }
 {
