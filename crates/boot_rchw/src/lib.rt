@@ -15,6 +15,7 @@ pub struct Search {
 const PLACES: [u32; 6] = [0x0, 0x4000, 0x10000, 0x1C000, 0x20000, 0x30000];
 
 // Whether the 8 bytes of a place lie in the memory, with 0x5A as the second.
+#[tactic(auto, unfolding(crate::specs::Places::good_place))]
 fn is_good_place(memory: &[u8], place: u32) -> bool
     ensures { result ≡ good_place memory.now place }
 {
@@ -49,6 +50,7 @@ pub fn first_good(flash: &[u8]) -> Search
 }
 
 // The search of the one place of the external head.
+#[tactic(auto, unfolding(crate::specs::Places::searched, crate::specs::Places::external_places))]
 pub fn examine_external(external: &[u8]) -> Search
     ensures { result ≡ searched external.now 0 external_places }
 {

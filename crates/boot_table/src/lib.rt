@@ -24,6 +24,7 @@ pub struct Row {
 pub const PUBLIC: [u8; 8] = [0xFE, 0xED, 0xFA, 0xCE, 0xCA, 0xFE, 0xBE, 0xEF];
 
 // What the column BOOTCFG of the table says.
+#[tactic(auto, unfolding(crate::specs::Table::asked_by))]
 pub fn asked_by(bootcfg: u32) -> Asked
     ensures { result ≡ asked_by bootcfg }
 {
@@ -37,6 +38,7 @@ pub fn asked_by(bootcfg: u32) -> Asked
 }
 
 // Whether the control that matters is 0x55AA.
+#[tactic(auto, unfolding(crate::specs::Table::control_55aa))]
 fn has_55aa(asked: Asked, shadow: &[u8]) -> bool
     ensures { result ≡ control_55aa asked shadow.now }
 {
@@ -48,6 +50,7 @@ fn has_55aa(asked: Asked, shadow: &[u8]) -> bool
 }
 
 // The row of the table.
+#[tactic(auto, unfolding(crate::specs::Table::row_of))]
 fn row_of(asked: Asked, is_55aa: bool, shadow: &[u8]) -> Row
     ensures { result ≡ row_of asked is_55aa shadow.now }
 {
@@ -99,6 +102,7 @@ fn row_of(asked: Asked, is_55aa: bool, shadow: &[u8]) -> Row
 }
 
 // The row that holds, by BOOTCFG and the shadow row's controls.
+#[tactic(auto, unfolding(crate::specs::Table::row_for))]
 pub fn row_for(asked: Asked, shadow: &[u8]) -> Row
     ensures { result ≡ row_for asked shadow.now }
 {

@@ -37,6 +37,7 @@ fn is_same(a: [u8; 8], b: [u8; 8]) -> bool
 }
 
 // Whether a received password is legal and equal to the selected one.
+#[tactic(auto, unfolding(crate::specs::Passing::passes))]
 pub fn check(received: [u8; 8], selected: [u8; 8]) -> bool
     ensures { result ≡ passes received selected }
 {
