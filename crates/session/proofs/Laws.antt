@@ -20,7 +20,6 @@ use Rattle.session_state.specs.declared.Session.{Session}
 use Rattle.session_state.specs.declared.Stage.{Stage}
 use Rattle.session_state.specs.Sound.{load_fits, count_fits, fitting, sound}
 use Rattle.session_state.proofs.Laws.{SizeFits, load_fits_lem, sound_fits, sound_size, sound_again}
-use Rattle.header.specs.declared.Header.{Header}
 use Rattle.header.specs.declared.Validated.{Validated}
 use Rattle.header.specs.Reading.{header_read, announces_none, within, validated}
 use Rattle.session_items.specs.declared.Reaction.{Reaction}

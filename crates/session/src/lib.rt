@@ -45,6 +45,7 @@ fn stop(session: Session, refusal: Refusal) -> Transition
 }
 
 // The 8 password bytes.
+#[tactic(auto, unfolding(crate::specs::Rules::checked))]
 fn check_password(session: Session, port: Port, bytes: [u8; 8]) -> Transition
     ensures { result ≡ checked session port bytes }
 {
@@ -76,6 +77,7 @@ fn begin_load(session: Session, port: Port, validated: Validated) -> Transition
 }
 
 // Bytes of a load.
+#[tactic(auto, unfolding(crate::specs::Rules::loaded))]
 fn advance(session: Session, port: Port, load: Load, bytes: &[u8]) -> Transition
     requires { LoadRoom session.configuration load (length bytes.now) }
     ensures { result ≡ loaded session port load bytes.now }
@@ -127,6 +129,7 @@ fn hold(session: Session, stage: Stage, held: [u8; 8], count: u8) -> Transition
 }
 
 // Password bytes by a port.
+#[tactic(auto, unfolding(crate::specs::Rules::password_received))]
 fn receive_password(session: Session, port: Port, bytes: &[u8]) -> Transition
     requires { session.count + length bytes.now ≤ 8 }
     ensures { result ≡ password_received session port (received session bytes.now) }
@@ -140,6 +143,7 @@ fn receive_password(session: Session, port: Port, bytes: &[u8]) -> Transition
 }
 
 // Header bytes by a port.
+#[tactic(auto, unfolding(crate::specs::Rules::header_received))]
 fn receive_header(session: Session, port: Port, bytes: &[u8]) -> Transition
     requires { session.count + length bytes.now ≤ 8 }
     ensures { result ≡ header_received session port (received session bytes.now) }
@@ -154,6 +158,7 @@ fn receive_header(session: Session, port: Port, bytes: &[u8]) -> Transition
 }
 
 // The bytes taken in a role.
+#[tactic(auto, unfolding(crate::specs::Rules::transition))]
 fn receive(role: Role, session: Session, port: Port, bytes: &[u8]) -> Transition
     requires { Room role session (length bytes.now) }
     ensures { result ≡ transition role session port bytes.now }
@@ -166,6 +171,7 @@ fn receive(role: Role, session: Session, port: Port, bytes: &[u8]) -> Transition
 }
 
 // Stores the bytes of a load.
+#[tactic(auto, unfolding(crate::specs::Rules::sram_after))]
 fn store_data(role: Role, session: Session, sram: &mut [u8], bytes: &[u8])
     requires { (right_size session.configuration sram.old ≡ true) × Room role session (length bytes.now) }
     ensures { sram.new ≡ sram_after role session sram.old bytes.now }
@@ -179,6 +185,7 @@ fn store_data(role: Role, session: Session, sram: &mut [u8], bytes: &[u8])
 }
 
 // An item's bytes are taken: the session moves on, they are echoed, and stored where they are data.
+#[tactic(auto, unfolding(crate::specs::Rules::taken_as))]
 fn take(role: Role, port: Port, session: Session, sram: &mut [u8], bytes: &[u8]) -> StepResult
     requires { (right_size session.configuration sram.old ≡ true) × (length bytes.now ≤ 8) × Room role session (length bytes.now) }
     ensures { result_of result sram.new ≡ taken_as role port session sram.old bytes.now }
@@ -209,6 +216,7 @@ fn stop_by_faulty_byte(session: Session) -> StepResult
 }
 
 // One item.
+#[tactic(auto, unfolding(crate::specs::Rules::step))]
 pub fn hand_in(session: Session, sram: &mut [u8], source: Source, bytes: &[u8]) -> StepResult
     ensures { result_of result sram.new ≡ step session sram.old (Item.Of source bytes.now) }
 {
