@@ -29,6 +29,7 @@ fn fits_can(kind: u8, identifier: u16) -> bool
 }
 
 // Whether the bytes begin with a record that is whole and keeps the rules.
+#[tactic(auto, unfolding(crate::specs::Records::good_record))]
 fn is_good_record(bytes: &[u8]) -> bool
     ensures { result ≡ good_record bytes.now }
 {
@@ -41,6 +42,7 @@ fn is_good_record(bytes: &[u8]) -> bool
 }
 
 // The header of the record with which the bytes begin.
+#[tactic(auto, unfolding(crate::specs::Records::header_found))]
 fn find_header(bytes: &[u8]) -> RecordHeader
     ensures { result ≡ header_found bytes.now }
 {
