@@ -25,6 +25,7 @@ fn is_heard_under(port: Port, heard: Port, due: u32, identifier: u32) -> bool
 }
 
 // Whether two lists have the same bytes.
+#[tactic(auto, using(octets::proofs::Comparing::same_length))]
 fn is_same(a: &[u8], b: &[u8]) -> bool
     ensures { result ≡ same a.now b.now }
 {
@@ -40,6 +41,7 @@ fn is_same(a: &[u8], b: &[u8]) -> bool
 }
 
 // Whether what is heard is the echo due.
+#[tactic(auto, using(octets::proofs::Taking::take_least), unfolding(crate::specs::Hearing::is_echo))]
 pub fn is_echo(port: Port, due: Echo, heard: Port, identifier: u32, bytes: &[u8]) -> bool
     ensures { result ≡ is_echo port due heard identifier bytes.now }
 {
