@@ -19,6 +19,7 @@ fn later(a: u32, b: u32) -> u32
 }
 
 // How many bytes of a load are held.
+#[tactic(auto, unfolding(crate::specs::Groups::held_count))]
 pub fn held_count(start: u32, next: u32) -> u8
     ensures { result ≡ held_count start next }
 {
@@ -30,6 +31,7 @@ pub fn held_count(start: u32, next: u32) -> u8
 }
 
 // How many bytes are written of so many from the beginning of a group on.
+#[tactic(auto, unfolding(crate::specs::Groups::zeros))]
 fn written_count(last: bool, many: usize) -> usize
     requires { many ≤ 16 }
     ensures { result ≡ (many + length (behind «last»)) / 8 * 8 }
