@@ -125,3 +125,20 @@ claimed bootcfg flash shadow external {r} e =
     let p = picked flash (allowed bootcfg flash shadow external) c (chosen_answers (asked_by bootcfg) flash shadow external) in
     subst (λ (x : Choice). ChoiceClaim bootcfg flash shadow external x) (sym e)
     (record { equation = refl; number = p.number; count = p.count; at_most_six = p.at_most_six })
+
+-- with sizes allowed, and not
+pub claimed_allowed
+    : (bootcfg : ℕ) (flash shadow external : List ℕ) {r : Choice}
+    → allowed bootcfg flash shadow external ≡ true
+    → r ≡ chosen (asked_by bootcfg) flash shadow external
+    → ChoiceClaim bootcfg flash shadow external r
+unfolding boot_choice
+claimed_allowed bootcfg flash shadow external sized e = claimed bootcfg flash shadow external (rw (e, sized))
+
+pub claimed_refused
+    : (bootcfg : ℕ) (flash shadow external : List ℕ) {r : Choice}
+    → allowed bootcfg flash shadow external ≡ false
+    → r ≡ refusal
+    → ChoiceClaim bootcfg flash shadow external r
+unfolding boot_choice
+claimed_refused bootcfg flash shadow external sized e = claimed bootcfg flash shadow external (rw (e, sized))

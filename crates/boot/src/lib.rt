@@ -97,6 +97,7 @@ fn boot_from(mode: Mode, memory: &[u8], search: Search, row: Row) -> Choice
 }
 
 // The choice after a search: a boot from the place found, or serial boot.
+#[tactic(auto, unfolding(crate::specs::Choosing::settled))]
 fn settle(mode: Mode, entered: Entered, memory: &[u8], search: Search, row: Row) -> Choice
     ensures { result ≡ settled mode entered memory.now search row }
 {
@@ -107,6 +108,7 @@ fn settle(mode: Mode, entered: Entered, memory: &[u8], search: Search, row: Row)
 }
 
 // How the head boots, once the sizes are allowed.
+#[tactic(auto, unfolding(crate::specs::Choosing::chosen))]
 fn chosen_for(asked: Asked, flash: &[u8], shadow: &[u8], external: &[u8]) -> Choice
     ensures { result ≡ chosen asked flash.now shadow.now external.now }
 {
@@ -131,6 +133,7 @@ fn chosen_for(asked: Asked, flash: &[u8], shadow: &[u8], external: &[u8]) -> Cho
 }
 
 // The boot choice, for every input.
+#[tactic(auto, using(crate::proofs::Claim::claimed_refused))]
 pub fn choose(bootcfg: u32, flash: &[u8], shadow: &[u8], external: &[u8]) -> Choice
     ensures { ChoiceClaim bootcfg flash.now shadow.now external.now result }
 {
