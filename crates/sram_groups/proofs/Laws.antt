@@ -1,6 +1,5 @@
 -- Bytes stored in groups, in whatever parts they come.
 use Prim.Native.Nat.{ℕ, ◌+◌, ◌-◌, ◌*◌, ◌/◌, ◌%◌, ◌≤◌, ◌<◌}
-use native.Mathlib.Nat.{add-zero, sub-zero}
 use native.Mathlib.Omega.{arith}
 use mathlib.Core.Path.{◌≡◌, refl, sym, ap, ◌∙◌}
 use mathlib.Core.List.{List, [], ◌++◌, append_assoc, append-nil}
@@ -11,7 +10,7 @@ use lib.ListN.{length, take, drop, length-append, length-drop, length-replicate,
 use lib.Seq.{length-take-le, take_at, drop_at, take-add, take-append-le, take-append-add, drop-append-le, drop-append-add}
 use Rattle.session_configuration.specs.declared.Configuration.{Configuration}
 use Rattle.sram.specs.Region.{size, base, right_size, in_range, stored}
-use Rattle.sram.proofs.Laws.{in_range_lem, range_base, range_end, range_part, stored_none, stored_size, stored_in_range_lem, stored_join}
+use Rattle.sram.proofs.Laws.{in_range_lem, range_base, range_end, stored_none, stored_size, stored_in_range_lem, stored_join}
 use Rattle.sram_groups.specs.Groups.{group_of, held_count, last_of, zeros, full_groups, behind, written, stored_in_groups, with_load, stored_within}
 
 pub zeros-length : (count : ℕ) → length (zeros count) ≡ count

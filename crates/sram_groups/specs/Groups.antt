@@ -1,5 +1,5 @@
 -- SRAM is written in groups of 8 bytes (02, E4; 000, the notes on ECC in 16.3.2.3.3 and 16.3.2.3.4). A group begins at a multiple of 8.
-use Rattle.std.specs.Prelude.{ℕ, ◌+◌, ◌-◌, ◌*◌, ◌/◌, ◌%◌, max, List, [], ◌++◌, Bool, cond, ◌&&◌, leb, length, take, drop, replicate}
+use Rattle.std.specs.Prelude.{ℕ, ◌+◌, ◌-◌, ◌*◌, ◌/◌, ◌%◌, max, List, [], ◌++◌, Bool, cond, leb, length, take, drop, replicate}
 use Rattle.session_configuration.specs.declared.Configuration.{Configuration}
 use Rattle.sram.specs.Region.{base, stored, stored_in_range}
 
