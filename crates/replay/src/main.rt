@@ -4,8 +4,34 @@
 
 ghost use Rattle.std.specs.Prelude.{◌≤◌, length};
 
-use libc::{STDERR_FILENO, STDIN_FILENO, STDOUT_FILENO};
 use replay_record::Progress;
+use std::env::{Env, FillError};
+use std::fmt::Display;
+use std::fs::File;
+use std::io;
+use std::io::{ErrorKind, IsTerminal, Read, Write};
+use std::rt::Files;
+
+// How the program is called.
+const USAGE: &str = "usage: replay [FILE]\n       replay --help\n";
+
+// What it does, what it reads and what it writes.
+const HELP: &str = "\n\
+    Shows what a head answers to a capture, which is read from FILE or, without\n\
+    it, from standard input.\n\
+    \n\
+    A capture is a truck's file: records, one behind the other. A record has two\n\
+    bytes for the length of what follows, the byte 01, a byte for its kind, and a\n\
+    body. Kind 1 is a CAN frame (two bytes of identifier and at most 8 of data),\n\
+    2 a clean and 3 a faulty serial byte, 4 a reset.\n\
+    \n\
+    Each record gives a line: its number, the answer's number, and the echo in\n\
+    hex or \"-\". Of the answers 0 is an item taken, 1 one ignored and 5 the jump;\n\
+    2, 3, 4 and 12 stop the head; 10 is a damaged record, and ends the text.\n\
+    \n\
+    The last line says where the head is: end waiting, end password, end header,\n\
+    end data, end stopped N or end jump ADDRESS. Where it is missing, the file was\n\
+    not opened or a read or a write has failed, and standard error says why.\n";
 
 // What a read brought: how many bytes are to be played behind those that the window held, whether the input has ended, and whether the
 // read failed.
@@ -25,17 +51,9 @@ struct Run {
     ended: bool,
 }
 
-// How much of the output is written, and whether a write failed.
-#[derive(Clone, Copy)]
-struct Sent {
-    done: usize,
-    failed: bool,
-}
-
-// Says on standard error what failed, and why.
-fn complain(name: &[u8]) {
-    io::write_all(STDERR_FILENO, b"replay: ");
-    os::fail(name);
+// Says on standard error what failed, and why. Nothing is left to do where that fails too.
+fn complain(rt: &impl Eprint, name: &str, why: impl Display + Drop) {
+    let _ = eprintln!(rt; "replay: {name}: {why}");
 }
 
 // Where the record that begins at a place ends, or the place itself where none is whole and keeps the rules.
@@ -64,24 +82,17 @@ fn whole_part(bytes: &[u8]) -> usize {
     part
 }
 
-// What a read that brought no bytes says, behind those that the window held. One that a signal interrupted says nothing; after one that
-// failed the whole records that wait for more are played.
-fn read_nothing(got: isize, name: &[u8], held: &[u8]) -> Input {
-    if got == 0 {
-        return Input {
-            count: 0,
-            last: true,
-            failed: false,
-        };
-    }
-    if os::errno() == libc::EINTR {
+// What a read that failed says, behind the bytes that the window held. One that a signal interrupted says nothing; after any other the
+// whole records that wait for more are played.
+fn read_nothing(rt: &impl Eprint, name: &str, error: io::Error, held: &[u8]) -> Input {
+    if error.kind() == ErrorKind::Interrupted {
         return Input {
             count: 0,
             last: false,
             failed: false,
         };
     }
-    complain(name);
+    complain(rt, name, error);
     Input {
         count: octets::difference(whole_part(held), held.len()),
         last: false,
@@ -91,77 +102,52 @@ fn read_nothing(got: isize, name: &[u8], held: &[u8]) -> Input {
 
 // Reads once behind the bytes that the window holds, unless the input has ended or there is no room: to read no bytes looks like the
 // end.
-fn read_once(fd: i32, name: &[u8], window: &mut [u8], held: usize, last: bool) -> Input
+fn read_once(
+    rt: &impl Eprint,
+    name: &str,
+    input: &mut impl Read,
+    window: &mut [u8],
+    held: usize,
+    last: bool,
+) -> Input
     requires { held ≤ length window.old }
 {
     if last | (held == window.len()) {
         return Input {
             count: 0,
-            last: last,
+            last,
             failed: false,
         };
     }
-    let got = libc::read(fd, &mut window[held..]);
-    if got <= 0 {
-        return read_nothing(got, name, &window[0..held]);
-    }
-    Input {
-        count: io::count(got, &window[held..]),
-        last: false,
-        failed: false,
+    match input.read(&mut window[held..]) {
+        Ok(count) => Input {
+            count,
+            last: count == 0,
+            failed: false,
+        },
+        Err(error) => read_nothing(rt, name, error, &window[..held]),
     }
 }
 
-// Writes once, from a position on. A write that a signal interrupts is tried again by the caller; one that takes nothing has failed.
-fn write_once(out: &[u8], done: usize) -> Sent {
-    let from = octets::least(done, out.len());
-    let part = &out[from..];
-    let put = libc::write(STDOUT_FILENO, part);
-    if 0 < put {
-        return Sent {
-            done: from + io::count(put, part),
-            failed: false,
-        };
-    }
-    if put == 0 {
-        io::write_all(STDERR_FILENO, b"replay: standard output takes no more\n");
-        return Sent {
-            done: from,
-            failed: true,
-        };
-    }
-    if os::errno() == libc::EINTR {
-        return Sent {
-            done: from,
-            failed: false,
-        };
-    }
-    complain(b"standard output");
-    Sent {
-        done: from,
-        failed: true,
-    }
-}
-
-// Writes all, and returns whether that failed. A proved loop has to end, so its turns are counted down from a number that no run
-// uses up.
-fn write_out(out: &[u8]) -> bool {
-    let mut sent = Sent {
-        done: 0,
-        failed: false,
+// Writes all, and returns whether that failed. A write that a signal interrupts is made again, and one that takes nothing has failed.
+fn write_out(rt: &impl Eprint, output: &mut impl Write, text: &[u8]) -> bool {
+    let Err(error) = output.write_all(text) else {
+        return false;
     };
-    let mut turns = u64::MAX;
-    while !sent.failed & (sent.done < out.len()) & (0 < turns) {
-        sent = write_once(out, sent.done);
-        turns = turns - 1;
+    if error.kind() == ErrorKind::WriteZero {
+        let _ = eprintln!(rt; "replay: standard output takes no more");
+    } else {
+        complain(rt, "standard output", error);
     }
-    sent.failed
+    true
 }
 
 // Reads behind what the window holds, plays what can be played, and writes its text.
 fn play_on(
-    fd: i32,
-    name: &[u8],
+    rt: &impl Eprint,
+    name: &str,
+    input: &mut impl Read,
+    output: &mut impl Write,
     window: &mut [u8],
     sram: &mut [u8],
     out: &mut [u8],
@@ -169,120 +155,98 @@ fn play_on(
 ) -> Run {
     let before = run.progress;
     let held = octets::least(before.unread, window.len());
-    let input = read_once(fd, name, window, held, run.last);
+    let read = read_once(rt, name, input, window, held, run.last);
     let room = octets::difference(window.len(), held);
-    let have = held + octets::least(input.count, room);
-    let progress = replay_window::play_window(&mut window[0..have], input.last, before, sram, out);
+    let have = held + octets::least(read.count, room);
+    let progress = replay_window::play_window(&mut window[..have], read.last, before, sram, out);
     let used = octets::least(progress.used, out.len());
-    let failed = write_out(&out[0..used]);
+    let failed = write_out(rt, output, &out[..used]);
     Run {
-        progress: progress,
-        last: input.last,
-        ended: progress.ended | input.failed | failed,
+        progress,
+        last: read.last,
+        ended: progress.ended | read.failed | failed,
     }
 }
 
-// Plays window after window until the text has ended, or a read or a write has failed.
-fn play_all(fd: i32, name: &[u8], window: &mut [u8], sram: &mut [u8], out: &mut [u8]) {
+// Plays window after window until the text has ended, or a read or a write has failed. A proved loop has to end, so its turns are
+// counted, to a number that no run uses up.
+fn play_all(
+    rt: &impl Eprint,
+    name: &str,
+    input: &mut impl Read,
+    output: &mut impl Write,
+    window: &mut [u8],
+    sram: &mut [u8],
+    out: &mut [u8],
+) {
     let mut run = Run {
         progress: replay_record::begin(),
         last: false,
         ended: false,
     };
-    let mut turns = u64::MAX;
-    while !run.ended & (0 < turns) {
-        run = play_on(fd, name, window, sram, out, run);
-        turns = turns - 1;
+    for _ in 0..u64::MAX {
+        run = play_on(rt, name, input, output, window, sram, out, run);
+        if run.ended {
+            return;
+        }
     }
 }
 
-// Plays the capture that a descriptor brings.
-fn play_capture(fd: i32, name: &[u8]) {
+// Plays the capture that an input brings.
+fn play_capture(rt: &impl Eprint, name: &str, input: &mut impl Read, output: &mut impl Write) {
     let mut window = [0u8; 8192];
     let mut sram = replay_record::zeroed_sram();
     let mut out = [0u8; 65536];
-    play_all(fd, name, &mut window[..], &mut sram[..], &mut out[..]);
-}
-
-// Plays the capture on standard input.
-fn play_input() {
-    if libc::isatty(STDIN_FILENO) == 1 {
-        io::write_all(
-            STDERR_FILENO,
-            b"replay: reading a capture from the terminal\n",
-        );
-    }
-    play_capture(STDIN_FILENO, b"standard input");
-}
-
-// How the program is called.
-fn say_usage(fd: i32) {
-    io::write_all(fd, b"usage: replay [FILE]\n       replay --help\n");
-}
-
-// What the program does, what it reads and what it writes.
-fn say_help() {
-    say_usage(STDOUT_FILENO);
-    write_out(
-        b"\n\
-          Shows what a head answers to a capture, which is read from FILE or, without\n\
-          it, from standard input.\n\
-          \n\
-          A capture is a truck's file: records, one behind the other. A record has two\n\
-          bytes for the length of what follows, the byte 01, a byte for its kind, and a\n\
-          body. Kind 1 is a CAN frame (two bytes of identifier and at most 8 of data),\n\
-          2 a clean and 3 a faulty serial byte, 4 a reset.\n\
-          \n\
-          Each record gives a line: its number, the answer's number, and the echo in\n\
-          hex or \"-\". Of the answers 0 is an item taken, 1 one ignored and 5 the jump;\n\
-          2, 3, 4 and 12 stop the head; 10 is a damaged record, and ends the text.\n\
-          \n\
-          The last line says where the head is: end waiting, end password, end header,\n\
-          end data, end stopped N or end jump ADDRESS. Where it is missing, the file was\n\
-          not opened or a read or a write has failed, and standard error says why.\n",
+    play_all(
+        rt,
+        name,
+        input,
+        output,
+        &mut window[..],
+        &mut sram[..],
+        &mut out[..],
     );
 }
 
-// Whether a word is `--help`.
-fn is_help(word: &[u8]) -> bool {
-    (word.len() == 6)
-        & (octets::word(word, 0) == octets::word(b"--help", 0))
-        & (octets::half(word, 4) == octets::half(b"--help", 4))
+// Plays the capture on standard input.
+fn play_input(rt: &impl Eprint, input: &mut (impl Read + IsTerminal), output: &mut impl Write) {
+    if input.is_terminal() {
+        let _ = eprintln!(rt; "replay: reading a capture from the terminal");
+    }
+    play_capture(rt, "standard input", input, output);
 }
 
-// Does what the program's only argument asks. The exit closes the file.
-fn follow(word: &[u8]) {
-    if is_help(word) {
-        say_help();
+// Does what the program's only argument asks. A file's name is text.
+fn follow(rt: &(impl Files + Eprint), word: &[u8], output: &mut impl Write) {
+    if word == b"--help".as_slice() {
+        if !write_out(rt, output, USAGE.as_bytes()) {
+            write_out(rt, output, HELP.as_bytes());
+        }
         return;
     }
-    if octets::byte(word, 0) == b'-' {
-        say_usage(STDERR_FILENO);
+    if word.starts_with(b"-".as_slice()) {
+        let _ = rt.eprint(USAGE);
         return;
     }
-    let fd = os::open_read(word);
-    if fd < 0 {
-        complain(word);
+    let Ok(name) = str::from_utf8(word) else {
+        complain(rt, "the argument", "not UTF-8");
         return;
+    };
+    match File::open(rt, name) {
+        Ok(mut file) => play_capture(rt, name, &mut file, output),
+        Err(error) => complain(rt, name, error),
     }
-    play_capture(fd, word);
 }
 
-fn main() {
-    let words = os::arg_count();
-    if words < 2 {
-        play_input();
+fn main(rt: HostRuntime) {
+    if !matches!(rt.arg(2, &mut [0u8; 1]), Err(FillError::NotPresent)) {
+        let _ = rt.eprint(USAGE);
         return;
     }
-    if 2 < words {
-        say_usage(STDERR_FILENO);
-        return;
+    let mut word = [0u8; 4096];
+    match rt.arg(1, &mut word) {
+        Ok(length) => follow(&rt, &word[..length], &mut rt.stdout()),
+        Err(FillError::NotPresent) => play_input(&rt, &mut rt.stdin(), &mut rt.stdout()),
+        Err(FillError::TooLong) => complain(&rt, "the argument", "File name too long"),
     }
-    let mut word = io::buffer();
-    let length = os::arg(1, &mut word);
-    if os::errno() != 0 {
-        complain(b"the argument");
-        return;
-    }
-    follow(&word[..length]);
 }
