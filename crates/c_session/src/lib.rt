@@ -150,6 +150,7 @@ pub fn number_at(numbers: &[u32], at: usize) -> u32
 }
 
 // The port, the load, the refusal and the jump that a stage may have.
+#[tactic(auto, unfolding(crate::specs::Reading::port_read))]
 fn read_port(numbers: &[u32]) -> Port
     ensures { result ≡ port_read numbers.now }
 {
@@ -170,6 +171,7 @@ fn read_load(numbers: &[u32]) -> Load
     }
 }
 
+#[tactic(auto, unfolding(crate::specs::Reading::refusal_read))]
 fn read_refusal(numbers: &[u32]) -> Refusal
     ensures { result ≡ refusal_read numbers.now }
 {
@@ -192,6 +194,7 @@ fn read_jump(numbers: &[u32]) -> Jump
 }
 
 // The stage.
+#[tactic(auto, unfolding(crate::specs::Reading::stage_read))]
 fn read_stage(numbers: &[u32]) -> Stage
     ensures { result ≡ stage_read numbers.now }
 {
