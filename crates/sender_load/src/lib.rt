@@ -79,6 +79,7 @@ fn echo_from(role: Role, port: Port, all: &[u8], at: usize) -> Echo
 }
 
 // The echo of the item at the load's place.
+#[tactic(auto, unfolding(crate::specs::Items::part))]
 pub fn echo_due(sender: Sender, image: &[u8]) -> Echo
     ensures { result ≡ echo_due sender image.now }
 {
@@ -159,6 +160,7 @@ fn does_item_begin(sender: Sender) -> bool
 }
 
 // Whether neither 3 nor 4 is due for the load's start and length.
+#[tactic(auto, unfolding(header::specs::Reading::validated))]
 fn does_header_fit(sender: Sender) -> bool
     ensures { result ≡ fits sender.configuration (load_header sender) }
 {
@@ -175,6 +177,7 @@ fn does_header_fit(sender: Sender) -> bool
 }
 
 // Whether a load is sound, with the image that is handed in.
+#[tactic(auto, unfolding(crate::specs::Items::sound_load))]
 pub fn is_sound(sender: Sender, image: &[u8]) -> bool
     ensures { result ≡ sound_load sender image.now }
 {
