@@ -43,7 +43,7 @@ use Rattle.session.specs.Rules.{enters, stops, received, holds, checked, begun, 
 use Rattle.session.specs.Running.{Call, Run, ran}
 use Rattle.session.proofs.Laws.{Gathered, reacted_in, reacted, step_takes, step_stops, step_ignores, kept, kept-stopped, received_all, received_at_once}
 use Rattle.session_merging.specs.Merging.{picked_port, in_stream, only, jumps_in, clean_run, bytes_from_clean, data_bytes, bytes_from_header, bytes_from_password, plain_from, plain_of, plain_header, announced, complete, plain_jump}
-use Rattle.session_merging.proofs.Ports.{same_own}
+use Rattle.session_merging.proofs.Ports.{same_own, picked_later}
 use Rattle.session_merging.proofs.Splitting.{short, unpassed, header-bytes, all_there, announced-there}
 
 -- of one call, its outcome if it gets 5
@@ -166,7 +166,9 @@ module _ (configuration : Configuration) where
   opening_passed item items e =
       let picked = picked_port items in
       let later = only (in_stream picked) items in
-      rw e
+      subst
+      (λ (p : Option Port). plain_from configuration p (only (in_stream p) (item ∷ items)) ≡ plain_from configuration picked later)
+      (sym (picked_later item items e))
       (by_test (λ (l : List Item). plain_from configuration picked l ≡ plain_from configuration picked later) (item ∷ later) later
       (in_stream picked item) (λ i. unopened picked item later e) (λ i. refl))
 

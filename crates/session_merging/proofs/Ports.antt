@@ -1,9 +1,9 @@
 -- A session that has opened takes no item of the other port, so a list and its stream run alike.
 use Prim.Native.Nat.{ℕ}
-use mathlib.Core.Path.{◌≡◌, refl, sym, ap, ◌∙◌}
+use mathlib.Core.Path.{◌≡◌, refl, sym, subst, ap, ◌∙◌}
 use mathlib.Core.List.{List, [], ◌∷◌, ◌++◌, map}
 use mathlib.Core.Bool.{Bool, true, false, not, true≢false, false≢true}
-use mathlib.Core.Option.{some}
+use mathlib.Core.Option.{Option, some}
 use borrow.Author.Tests.{eqb-false}
 use lib.Dec.{eqb}
 use lib.ListN.{length}
@@ -160,19 +160,32 @@ along-opened port session sram (item ∷ items) ok t =
     along-next port session sram item items ok (λ s m o u. along-opened port s m items o u) t (reaction session.stage item) refl
     (opened_by port session.stage item t)
 
+-- an item that does not open leaves the pick to those behind it
+pub picked_later : (item : Item) (items : List Item) → opens item ≡ false → picked_port (item ∷ items) ≡ picked_port items
+unfolding picked_port
+picked_later item items e = rw e
+
+-- one that opens picks its port
+picked_first : (item : Item) (items : List Item) → opens item ≡ true → picked_port (item ∷ items) ≡ some (port_of item)
+unfolding picked_port
+picked_first item items e = rw e
+
 -- before the opening everything is passed by
 along_first : (configuration : Configuration) (sram : List ℕ) (item : Item) (items : List Item) (b : Bool) → opens item ≡ b
     → Accepted (fresh_session configuration) sram
     → Along (in_stream (picked_port items)) (fresh_session configuration) sram items
     → Along (in_stream (picked_port (item ∷ items))) (fresh_session configuration) sram (item ∷ items)
-unfolding picked_port reaction
+unfolding reaction
 along_first configuration sram item items true e ok rest =
     let port = port_of item in
-    rw e
+    subst (λ (picked : Option Port). Along (in_stream picked) (fresh_session configuration) sram (item ∷ items))
+    (sym (picked_first item items e))
     (along_takes port (fresh_session configuration) sram item items ok (λ s m o u. along-opened port s m items o u)
     Role.Password port (rw e) (same_own port))
 along_first configuration sram item items false e ok rest =
-    rw e (along_passed (in_stream (picked_port items)) (fresh_session configuration) sram item items ok (rw e) rest)
+    subst (λ (picked : Option Port). Along (in_stream picked) (fresh_session configuration) sram (item ∷ items))
+    (sym (picked_later item items e))
+    (along_passed (in_stream (picked_port items)) (fresh_session configuration) sram item items ok (rw e) rest)
 
 pub passed_along : (configuration : Configuration) (sram : List ℕ) (items : List Item) → Accepted (fresh_session configuration) sram
     → Along (in_stream (picked_port items)) (fresh_session configuration) sram items
