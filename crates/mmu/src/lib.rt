@@ -46,6 +46,7 @@ fn row_of(logical: u32, physical: u32, size: u32, inhibited: bool, guarded: bool
 }
 
 // Entries 0 to 4 of internal boot.
+#[tactic(auto, unfolding(crate::specs::Rows::internal_rows))]
 fn internal_rows(vle: bool) -> [Row; 5]
     ensures { result ≡ internal_rows vle }
 {
@@ -93,6 +94,7 @@ fn refuse(number: u8) -> Mapping
 }
 
 // The rows of a boot, with VLE as it is.
+#[tactic(auto, unfolding(crate::specs::Rows::mapping_for))]
 fn rows_for(mode: Mode, vle: bool) -> Mapping
     ensures { result ≡ mapping_for mode vle }
 {
@@ -114,6 +116,7 @@ pub fn choice_rows(mode: Mode) -> Mapping
 }
 
 // The rows of a session.
+#[tactic(auto, unfolding(crate::specs::Rows::session_rows))]
 pub fn session_rows(session: Session) -> Mapping
     ensures { result ≡ session_rows session }
 {
