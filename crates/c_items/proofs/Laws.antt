@@ -2,17 +2,13 @@
 use Prim.Native.Nat.{ℕ}
 use native.Mathlib.Omega.{arith}
 use mathlib.Core.Path.{◌≡◌, refl, sym, ap, ◌∙◌}
-use mathlib.Core.List.{List, [], ◌∷◌}
+use mathlib.Core.List.{List}
 use mathlib.Core.Bool.{Bool, true, false, true≢false}
-use mathlib.Core.Logic.{inl, inr}
-use denote.Enum.Declared.{tag_of}
-use types.Run.{OneOf}
 use borrow.Author.Tests.{ne_eqb}
 use Rattle.session_state.specs.declared.Session.{Session}
 use Rattle.session_items.specs.Items.{Item, well_formed}
 use Rattle.session_answers.specs.declared.Fault.{Fault}
 use Rattle.session_answers.specs.declared.Outcome.{Outcome}
-use Rattle.session_answers.specs.contracts.Outcome.{the_type}
 use Rattle.session_answers.specs.declared.Prechecked.{Prechecked}
 use Rattle.session_answers.specs.declared.StepResult.{StepResult}
 use Rattle.session_answers.specs.Answers.{Result, result_of, fault_number, outcome_number, precheck}
@@ -26,13 +22,12 @@ use Rattle.c_session.proofs.Lengths.{sound_written}
 use Rattle.c_items.specs.Calls.{as_reply, precheck_number, item_precheck, leaves, item_reply, ItemClaim}
 
 -- an outcome of the arm that is not for refusals
-pub not_refused : (outcome : Outcome) → OneOf (0 ∷ 1 ∷ 2 ∷ 3 ∷ []) (tag_of the_type outcome) → IsAnswer outcome
+pub not_refused : (outcome : Outcome) → ((fault : Fault) → outcome ≡ Outcome.Refused fault → ⊥) → IsAnswer outcome
 not_refused Outcome.Taken k = tt
 not_refused Outcome.Ignored k = tt
 not_refused (Outcome.Stops refusal) k = tt
 not_refused (Outcome.Jumps jump) k = tt
-not_refused (Outcome.Refused fault) k =
-    elim k [ inl a ↦ absurd (omega arith) | inr b ↦ elim b [ inl c ↦ absurd (omega arith) | inr d ↦ elim d [ inl e ↦ absurd (omega arith) | inr f ↦ absurd (omega arith) ] ] ]
+not_refused (Outcome.Refused fault) k = absurd (k fault refl)
 
 -- without places for an answer something is due
 some_due : (session : Session) (sram : List ℕ) (formed : Bool) → item_precheck session sram formed false ≡ 0 → ⊥

@@ -12,6 +12,7 @@ use session_items::Source;
 use session_state::Session;
 
 // What comes before an item or a list of them: 7, then 8, then 6, then 9 for an answer that has not its places; or 0.
+#[tactic(auto, unfolding(crate::specs::Calls::item_precheck))]
 pub fn item_precheck(session: Session, sram: &[u8], formed: bool, placed: bool) -> u8
     ensures { result ≡ item_precheck session sram.now formed placed }
 {
