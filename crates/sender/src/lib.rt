@@ -119,6 +119,7 @@ pub fn no_load() -> Sender
 }
 
 // Begins a load, unless the head would answer its header with 3 or 4.
+#[tactic(auto, using(sender_load::proofs::Laws::fit_length), unfolding(crate::specs::Calls::load_begun))]
 pub fn begin(port: Port, start: u32, vle: bool, password: [u8; 8], image: &[u8]) -> BeginResult
     ensures { result ≡ load_begun port start vle password (length image.now) }
 {
@@ -165,6 +166,7 @@ fn give_none(answer: AskAnswer, sender: Sender) -> AskResult
 }
 
 // Asks for the next item.
+#[tactic(auto, unfolding(crate::specs::Calls::asked))]
 pub fn ask(sender: Sender, image: &[u8]) -> AskResult
     ensures { result ≡ asked sender image.now }
 {
@@ -215,6 +217,7 @@ fn move_on(sender: Sender, image: &[u8]) -> TellResult
 }
 
 // Tells what was heard at a port: the bytes of an echo, of CAN under an identifier, which is not looked at for serial.
+#[tactic(auto, using(crate::proofs::Telling::told_idle, crate::proofs::Telling::told_unsound, crate::proofs::Telling::told_in, crate::proofs::Telling::told_right, crate::proofs::Telling::told_wrong))]
 pub fn tell(sender: Sender, image: &[u8], port: Port, identifier: u32, bytes: &[u8]) -> TellResult
     ensures { result ≡ told sender image.now port identifier bytes.now }
 {
