@@ -12,7 +12,7 @@ use Rattle.session_state.specs.declared.Port.{Port}
 use Rattle.session_items.specs.declared.Role.{Role}
 use Rattle.session_items.specs.Items.{Item, bytes_of}
 use Rattle.sender_load.specs.declared.Sender.{Sender}
-use Rattle.sender_load.specs.Items.{width, whole_load, role_at, sent_as, first_place, part, identifier_for, source_by, sent_at, item_of, along, items_of, beginning_at, at_item, begins_item}
+use Rattle.sender_load.specs.Items.{width, whole_load, role_at, sent_as, first_place, part, identifier_for, source_by, sent_at, item_of, along, beginning_at, at_item, begins_item}
 use Rattle.sender_loop.specs.Loop.{PlaceStands}
 use Rattle.sender_loop.proofs.Head.{at, item_at, sent-item}
 use Rattle.sender_loop.proofs.Items.{walk, item_of_lem, load_items_lem}

@@ -1,5 +1,5 @@
 -- A buffer of eight is filled whole.
-use Rattle.std.proofs.Common.{◌∙◌, sym, refl, List, [], ◌∷◌, ℕ, length, ◌≡◌}
+use Rattle.std.proofs.Common.{◌∙◌, sym, List, [], ◌∷◌, ℕ}
 use Rattle.buffers.proofs.Eight.{eight-whole}
 use Rattle.buffers.proofs.Lending.{fill_whole}
 use Rattle.buffers.proofs.eight_of.Goals as goal

@@ -1,5 +1,5 @@
 -- The part from the address on, filled and given back.
-use Rattle.std.proofs.Common.{length, ◌≤◌, ◌+◌, ◌-◌, ◌≡◌, arith}
+use Rattle.std.proofs.Common.{length, ◌≡◌, arith}
 use Rattle.sram.specs.Region.{size, base}
 use Rattle.sram.proofs.Lending.{sram_back}
 use Rattle.sram.proofs.store.Goals as goal
