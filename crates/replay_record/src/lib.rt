@@ -36,6 +36,7 @@ pub fn begin() -> Progress
 }
 
 // The SRAM that a capture begins with.
+#[tactic(auto, unfolding(sram::specs::Region::size))]
 pub fn zeroed_sram() -> [u8; 65536]
     ensures { result ≡ beginning.sram }
 {
