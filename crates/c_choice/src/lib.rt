@@ -64,6 +64,7 @@ fn put_choice(fields: &mut [u32], password: &mut [u8], choice: Choice) -> u8
 }
 
 // The boot choice: writes its 8 numbers and the 8 bytes of the password selected, and returns number 0; or returns number 9.
+#[tactic(auto, unfolding(crate::specs::Calls::choice_answer))]
 pub fn choose(
     bootcfg: u32,
     flash: &[u8],
@@ -88,6 +89,7 @@ pub fn choose(
 }
 
 // A fresh session, from the number of a way to boot and the password selected.
+#[tactic(auto, unfolding(crate::specs::Calls::session_reply))]
 pub fn fresh(mode: u32, password: &[u8], session_bytes: &mut [u8], session: &mut [u32]) -> u8
     ensures { as_fresh_reply result (as_flat session_bytes.new session.new)
         ≡ session_reply mode password.now (as_flat session_bytes.old session.old) }
