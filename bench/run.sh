@@ -27,11 +27,11 @@ want() { # HOW-TO-GET-IT TEST..
 for part in $parts; do
     case $part in
     replay)
-        want "$replay is wanted: rt check replay builds it" test -x "$replay"
+        want "$replay is wanted: sh examples/replay.sh builds target/bin/replay" test -x "$replay"
         want 'rustc is wanted' command -v rustc
         ;;
     *)
-        want "$library is wanted: rt staticlib boot_assist builds it" test -f "$library"
+        want "$library is wanted: sh examples/library.sh builds target/staticlib/libboot_assist.a" test -f "$library"
         want 'cc, a C compiler, is wanted' command -v cc
         ;;
     esac

@@ -51,7 +51,7 @@ impl Program {
             Ok(path) => Ok(Program { name, path }),
             Err(error) => Err(format!(
                 "the program {name:?} is wanted: {error}\n\
-                 `rt check replay` builds {PROGRAM}; REPLAY in the environment names another"
+                 `sh examples/replay.sh` builds {PROGRAM}; REPLAY in the environment names another"
             )),
         }
     }

@@ -7,6 +7,7 @@ root=$(CDPATH= cd "$(dirname "$0")/.." && pwd)
 usage "$@"
 takes NAME "$@"
 readable NAME "$root/examples/$1.c"
-library=$root/target/staticlib/libboot_assist.a
-proved "$library" 'the library' staticlib boot_assist
-"${CC:-cc}" -std=c11 -Wall -Wextra -Werror -O2 -I"$root/include" -o "$out/$1" "$root/examples/$1.c" "$library"
+sh "$root/examples/library.sh"
+mkdir -p "$out"
+"${CC:-cc}" -std=c11 -Wall -Wextra -Werror -O2 -I"$root/include" -o "$out/$1" "$root/examples/$1.c" \
+    "$root/target/staticlib/libboot_assist.a"

@@ -31,16 +31,16 @@ readable() { # NAME FILE
     [ -r "$2" ] || bad "$1: $2 cannot be read"
 }
 
-# Has rt make a file, where it is not there or a source is newer.
-proved() { # FILE WHAT RT-ARGUMENTS..
-    made=$1 what=$2
-    shift 2
-    mkdir -p "$out"
-    if [ -f "$made" ] && [ -z "$(find "$root/crates" "$root/crates.txt" -newer "$made")" ]; then
+# Has rt prove a crate and build it, and puts a copy of what it made below target/, where there is none or a source is newer.
+proved() { # COPY WHAT CRATE RT-ARGUMENTS..
+    made=$1 what=$2 crate=$root/crates/$3
+    shift 3
+    mkdir -p "$out" "${made%/*}"
+    if [ -f "$made" ] && [ -z "$(find "$root/crates.txt" "$root"/crates/*/* -name out -prune -o -newer "$made" -print)" ]; then
         return
     fi
     command -v rt >/dev/null || bad "rt, which proves and builds $what, is not on the path"
     echo "$script: proving and building $what; this takes minutes the first time" >&2
-    (cd "$root" && rt "$@") >"$out/rt.log" 2>&1 || { cat "$out/rt.log" >&2; bad "rt $* failed"; }
-    touch -c "$made"
+    (cd "$crate" && rt "$@") </dev/null >"$out/rt.log" 2>&1 || { cat "$out/rt.log" >&2; bad "rt $1 failed in $crate"; }
+    cp -f "$crate/out/${made##*/}" "$made"
 }

@@ -1,6 +1,6 @@
 /*
  * The boot assist's C interface, for C99, C++11 and later. Link target/staticlib/libboot_assist.a, which
- * `rt staticlib boot_assist` writes for x86-64 Linux.
+ * `sh examples/library.sh` builds for x86-64 Linux.
  *
  * A head calls boot_assist_choose and, for serial boot, boot_assist_fresh, then boot_assist_frame or boot_assist_byte
  * with each item as it comes. Where the answer's echo_length is not 0 it sends the echo, and where the number is
