@@ -54,6 +54,7 @@ fn put_mapping(rows: &mut [u32], mapping: Mapping) -> u8
 }
 
 // The rows of a choice: writes 5 rows of 8 numbers and returns number 0; or returns number 11 or 9.
+#[tactic(auto, unfolding(crate::specs::Calls::choice_rows_reply))]
 pub fn choice_rows(mode: u32, rows: &mut [u32]) -> u8
     ensures { as_rows_reply result rows.new ≡ choice_rows_reply mode rows.old }
 {
