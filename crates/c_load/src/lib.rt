@@ -41,6 +41,7 @@ fn put_item(bytes: &mut [u8], numbers: &mut [u32], sent: Sent)
 }
 
 // Begins a load.
+#[tactic(auto, unfolding(crate::specs::Calls::reply_to_begin))]
 pub fn begin(
     port: u32,
     start: u32,
@@ -74,6 +75,7 @@ pub fn begin(
 }
 
 // Asks for the next item.
+#[tactic(auto, unfolding(crate::specs::Calls::reply_to_ask))]
 pub fn ask(
     sender_bytes: &mut [u8],
     sender: &mut [u32],
@@ -125,6 +127,7 @@ fn put_verdict(
 }
 
 // Tells what was heard.
+#[tactic(auto, unfolding(crate::specs::Calls::reply_to_tell))]
 pub fn tell(
     sender_bytes: &mut [u8],
     sender: &mut [u32],
