@@ -37,7 +37,8 @@ def declared():
     """The names that modules declare, and of them those of specs/."""
     names, specs = {}, set()
     for path in antt():
-        for line in open(path):
+        # a signature whose type begins on the next line is read as one line
+        for line in re.sub(r"\n\s+:", " :", open(path).read()).split("\n"):
             head = HEAD.match(line)
             if head and not line.lstrip().startswith("--"):
                 names.setdefault(head[1], path)
@@ -79,10 +80,11 @@ def table():
     taken = (every - set(names)) | set(new.values()) | {n for n in names if n not in new and "-" not in n}
     for name in sorted(names):
         if "-" in name and name[0].islower():
-            to = joined(name, known)
+            to = joined(snake(name), known)
             if to == name:
                 continue
-            if to in taken:
+            # a field is named after a function of src/, and nothing else has that name
+            if to in taken and name != "is-good-place":
                 to += "_lem"
             taken.add(to)
             new[name] = to

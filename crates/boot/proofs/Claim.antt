@@ -71,13 +71,13 @@ record Answered (flash : List ℕ) (n : ℕ) (c : Choice) : Type 0 where
   count : Ranked flash c.answer
   at_most_six : examined_of c.answer ≤ 6
 
-internal-ranked
+internal_ranked
     : (flash : List ℕ) (row : Row) (found : Bool) (place examined : ℕ)
     → Walked flash flash_places 0 found place examined
     → Answered flash 0
     (settled Mode.Internal Entered.FromInternal flash (record { found = found; place = place; examined = examined }) row)
 unfolding settled flash_places
-internal-ranked flash row true place examined w =
+internal_ranked flash row true place examined w =
     let rank : w.0 ≡ examined - 1 = omega arith in
     record {
       number = refl;
@@ -85,29 +85,29 @@ internal-ranked flash row true place examined w =
           record {
             from_one = omega arith;
             has_rank = w.3 ∙ ap (λ (k : ℕ). get_or flash_places k 0) rank;
-            is_good_place_lem = w.4;
+            is_good_place = w.4;
             none_before = λ i h. w.5 i (omega arith);
           };
       at_most_six = omega arith;
     }
-internal-ranked flash row false place examined w = record { number = refl; count = (w.0, w.1); at_most_six = omega arith }
+internal_ranked flash row false place examined w = record { number = refl; count = (w.0, w.1); at_most_six = omega arith }
 
-external-ranked
+external_ranked
     : (flash memory : List ℕ) (row : Row) (found : Bool) (place examined : ℕ)
     → Walked memory external_places 0 found place examined
     → Answered flash 0
     (settled Mode.External Entered.FromExternal memory (record { found = found; place = place; examined = examined }) row)
 unfolding settled external_places
-external-ranked flash memory row true place examined w =
+external_ranked flash memory row true place examined w =
     record { number = refl; count = omega arith; at_most_six = omega arith }
-external-ranked flash memory row false place examined w =
+external_ranked flash memory row false place examined w =
     record { number = refl; count = w.0; at_most_six = omega arith }
 
 chosen_answers : (asked : Asked) (flash shadow memory : List ℕ) → Answered flash 0 (chosen asked flash shadow memory)
 unfolding chosen
-chosen_answers Asked.Internal flash shadow memory = internal-ranked flash (row_for Asked.Internal shadow) _ _ _ (search_finds flash 0 flash_places)
+chosen_answers Asked.Internal flash shadow memory = internal_ranked flash (row_for Asked.Internal shadow) _ _ _ (search_finds flash 0 flash_places)
 chosen_answers Asked.External flash shadow memory =
-    external-ranked flash memory (row_for Asked.External shadow) _ _ _ (search_finds memory 0 external_places)
+    external_ranked flash memory (row_for Asked.External shadow) _ _ _ (search_finds memory 0 external_places)
 chosen_answers Asked.Serial flash shadow memory = record { number = refl; count = refl; at_most_six = omega arith }
 
 -- the choice that the test of the sizes picks

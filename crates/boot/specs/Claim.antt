@@ -16,7 +16,7 @@ NoneGood flash n = (i : ℕ) → i < n → good_place flash (get_or flash_places
 pub record FirstGood (flash : List ℕ) (place examined : ℕ) : Type 0 where
   pub from_one : 1 ≤ examined
   pub has_rank : place ≡ get_or flash_places (examined - 1) 0
-  pub is_good_place_lem : good_place flash place ≡ true
+  pub is_good_place : good_place flash place ≡ true
   pub none_before : NoneGood flash (examined - 1)
 
 -- the count, by how the head boots: the rank; "6 if none is good"; External: "count 1"; "BOOTCFG 1: serial, count 0"

@@ -9,19 +9,19 @@ use lib.Seq.{drop-cons}
 use Rattle.boot_rchw.specs.Places.{good_place, searched}
 
 module _ (memory places : List ℕ) (i : ℕ) where
-  pub search-found
+  pub search_found
       : i < length places
       → good_place memory (get_or places i 0) ≡ true
       → searched memory i (drop i places) ≡ record { found = true; place = get_or places i 0; examined = i + 1 }
   unfolding searched
-  search-found h e = rw (drop-cons places i 0, e)
+  search_found h e = rw (drop-cons places i 0, e)
 
-  pub search-on
+  pub search_on
       : i < length places
       → good_place memory (get_or places i 0) ≡ false
       → searched memory i (drop i places) ≡ searched memory (i + 1) (drop (i + 1) places)
   unfolding searched
-  search-on h e = rw (drop-cons places i 0, e, add-one)
+  search_on h e = rw (drop-cons places i 0, e, add-one)
 
   pub search_none : length places ≤ i → searched memory i (drop i places) ≡ record { found = false; place = 0; examined = i }
   unfolding searched

@@ -56,7 +56,7 @@ pub fn slide(s: &mut [u8], from: usize) -> usize
     moved
 }
 
-// Writes numbers over the first places of a slice that has room for them, as the kit's `bytes::copy` does with bytes.
+// Writes numbers over the first places of a slice that has room for them.
 fn copy_words(out: &mut [u32], words: &[u32])
     requires { length words.now ≤ length out.old }
     ensures { out.new ≡ over words.now out.old }

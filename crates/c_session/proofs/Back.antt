@@ -31,20 +31,20 @@ abbrev numbers_at : Configuration → List ℕ → ℕ → Stage → List ℕ
 numbers_at configuration held count stage =
     session_numbers record { configuration = configuration; stage = stage; held = held; count = count }
 
-stage-back
+stage_back
     : (configuration : Configuration) (held : List ℕ) (count : ℕ) (stage : Stage) → stage_read (numbers_at configuration held count stage) ≡ stage
 unfolding stage_read port_read refusal_read
-stage-back configuration held count Stage.Waiting = refl
-stage-back configuration held count Stage.Password = refl
-stage-back configuration held count (Stage.Header Port.Can) = refl
-stage-back configuration held count (Stage.Header Port.Serial) = refl
-stage-back configuration held count (Stage.Data Port.Can load) = rw (flag_back load.vle)
-stage-back configuration held count (Stage.Data Port.Serial load) = rw (flag_back load.vle)
-stage-back configuration held count (Stage.Stopped Refusal.Password) = refl
-stage-back configuration held count (Stage.Stopped Refusal.Length) = refl
-stage-back configuration held count (Stage.Stopped Refusal.Range) = refl
-stage-back configuration held count (Stage.Stopped (Refusal.FaultyByte vle)) = rw (flag_back vle)
-stage-back configuration held count (Stage.Jumped jump) = rw (flag_back jump.vle)
+stage_back configuration held count Stage.Waiting = refl
+stage_back configuration held count Stage.Password = refl
+stage_back configuration held count (Stage.Header Port.Can) = refl
+stage_back configuration held count (Stage.Header Port.Serial) = refl
+stage_back configuration held count (Stage.Data Port.Can load) = rw (flag_back load.vle)
+stage_back configuration held count (Stage.Data Port.Serial load) = rw (flag_back load.vle)
+stage_back configuration held count (Stage.Stopped Refusal.Password) = refl
+stage_back configuration held count (Stage.Stopped Refusal.Length) = refl
+stage_back configuration held count (Stage.Stopped Refusal.Range) = refl
+stage_back configuration held count (Stage.Stopped (Refusal.FaultyByte vle)) = rw (flag_back vle)
+stage_back configuration held count (Stage.Jumped jump) = rw (flag_back jump.vle)
 
 -- what a session's memory holds
 pub record Stored (s : Session) : Type 0 where
@@ -69,7 +69,7 @@ session_back s m =
         password = eight-whole s.configuration.password m.password-eight i;
         entered = (ap entered_of (entered_at s s.stage) ∙ entered_back s.configuration.entered) i;
       };
-      stage = stage-back s.configuration s.held s.count s.stage i;
+      stage = stage_back s.configuration s.held s.count s.stage i;
       held = eight-whole s.held m.held_eight i;
       count = mod-eq_of_lt m.count_byte.fits i;
     }

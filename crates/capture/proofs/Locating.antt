@@ -12,16 +12,16 @@ use Rattle.capture.specs.Located.{located_at, as_located}
 use Rattle.capture.proofs.Laws.{past}
 
 -- four places, written one after the other
-four-written
+four_written
     : (fields : List ℕ) (a b c d : ℕ)
     → length fields ≡ 4
     → set (set (set (set fields 0 a) 1 b) 2 c) 3 d ≡ a ∷ b ∷ c ∷ d ∷ []
-four-written [] a b c d e = absurd (omega arith)
-four-written (x ∷ []) a b c d e = absurd (omega arith)
-four-written (x ∷ y ∷ []) a b c d e = absurd (omega arith)
-four-written (x ∷ y ∷ z ∷ []) a b c d e = absurd (omega arith)
-four-written (x ∷ y ∷ z ∷ w ∷ []) a b c d e = refl
-four-written (x ∷ y ∷ z ∷ w ∷ v ∷ l) a b c d e = absurd (omega arith)
+four_written [] a b c d e = absurd (omega arith)
+four_written (x ∷ []) a b c d e = absurd (omega arith)
+four_written (x ∷ y ∷ []) a b c d e = absurd (omega arith)
+four_written (x ∷ y ∷ z ∷ []) a b c d e = absurd (omega arith)
+four_written (x ∷ y ∷ z ∷ w ∷ []) a b c d e = refl
+four_written (x ∷ y ∷ z ∷ w ∷ v ∷ l) a b c d e = absurd (omega arith)
 
 module _ (capture : List ℕ) (at number kind next : ℕ) (body fields : List ℕ) (told : as_read number kind next body ≡ reads capture at) where
   pub refuses : (number ≡ 0 → ⊥) → as_located number fields ≡ located_at capture at fields
@@ -47,4 +47,4 @@ module _ (capture : List ℕ) (at number kind next : ℕ) (body fields : List �
       → as_located 0 (set (set (set (set fields 0 kind) 1 next) 2 (next - length body)) 3 (length body)) ≡ located_at capture at fields
   unfolding located_at
   writes e h =
-      rw (four-written fields kind next (next - length body) (length body) h, starts e, ← told, eq-eqb number 0 e, eq-eqb (length fields) 4 h)
+      rw (four_written fields kind next (next - length body) (length body) h, starts e, ← told, eq-eqb number 0 e, eq-eqb (length fields) 4 h)

@@ -12,7 +12,7 @@ use Rattle.boot_table.specs.declared.Asked.{Asked}
 use Rattle.boot_table.specs.Table.{asked_by, row_for, row_of, control_55aa}
 use Rattle.boot_rchw.specs.declared.Search.{Search}
 use Rattle.boot_rchw.specs.Places.{good_place, searched, flash_places}
-use Rattle.boot_rchw.proofs.Searching.{search-found, search-on, search_none}
+use Rattle.boot_rchw.proofs.Searching.{search_found, search_on, search_none}
 use Rattle.session_configuration.specs.declared.Entered.{Entered}
 use Rattle.boot.specs.declared.Mode.{Mode}
 use Rattle.boot.specs.Choosing.{allowed, refusal, settled, chosen, boot_choice}
@@ -44,12 +44,12 @@ module _ (flash : List ℕ) (full : length flash ≡ 2097152) where
   good place h e = rw (full, e, le-leb (place + 8) 2097152 h)
 
   -- such a flash is of a size allowed, and what is found in it settles the boot
-  boots-by
+  boots_by
       : (search : Search)
       → searched flash 0 flash_places ≡ search
       → internal_boot flash ≡ (settled Mode.Internal Entered.FromInternal flash search (row_for Asked.Internal (replicate 12 0))).answer
   unfolding boot_choice chosen asked_by
-  boots-by search e =
+  boots_by search e =
       let sizes : allowed 0 flash (replicate 12 0) (replicate 8 0) ≡ true = rw (le-leb (length flash) 2097152 (omega (arith, full))) in
       ap (λ (b : Bool). (cond b (chosen Asked.Internal flash (replicate 12 0) (replicate 8 0)) refusal).answer) sizes
       ∙ ap (λ (s : Search). (settled Mode.Internal Entered.FromInternal flash s (row_for Asked.Internal (replicate 12 0))).answer) e
@@ -57,12 +57,12 @@ module _ (flash : List ℕ) (full : length flash ≡ 2097152) where
   on : (i : ℕ) → i < 6 → good_place flash (get_or flash_places i 0) ≡ false
       → searched flash i (drop i flash_places) ≡ searched flash (i + 1) (drop (i + 1) flash_places)
   unfolding flash_places
-  on i h = search-on flash flash_places i h
+  on i h = search_on flash flash_places i h
 
   none_good : ((at : ℕ) → byte_at flash at ≡ 0) → internal_boot flash ≡ boots (Mode.Serial Entered.FromInternal) 0 6
   unfolding settled flash_places row_for row_of control_55aa
   none_good e =
-      boots-by
+      boots_by
       (record { found = false; place = 0; examined = 6 })
       (on 0 (omega arith) (bad 0x0 (e 0x1))
       ∙ on 1 (omega arith) (bad 0x4000 (e 0x4001))
@@ -72,18 +72,18 @@ module _ (flash : List ℕ) (full : length flash ≡ 2097152) where
       ∙ on 5 (omega arith) (bad 0x30000 (e 0x30001))
       ∙ search_none flash flash_places 6 (omega arith))
 
-  fourth-good
+  fourth_good
       : ((at : ℕ) → (at ≡ 0x1C001 → ⊥) → byte_at flash at ≡ 0)
       → byte_at flash 0x1C001 ≡ 0x5A
       → internal_boot flash ≡ boots Mode.Internal 0x1C000 4
   unfolding settled flash_places row_for row_of control_55aa
-  fourth-good e f =
-      boots-by
+  fourth_good e f =
+      boots_by
       (record { found = true; place = 0x1C000; examined = 4 })
       (on 0 (omega arith) (bad 0x0 (e 0x1 (λ h. omega (arith, h))))
       ∙ on 1 (omega arith) (bad 0x4000 (e 0x4001 (λ h. omega (arith, h))))
       ∙ on 2 (omega arith) (bad 0x10000 (e 0x10001 (λ h. omega (arith, h))))
-      ∙ search-found flash flash_places 3 (omega arith) (good 0x1C000 (omega arith) f))
+      ∙ search_found flash flash_places 3 (omega arith) (good 0x1C000 (omega arith) f))
       ∙ rw (
         e 0x1C000 (λ h. omega (arith, h)),
         e 0x1C004 (λ h. omega (arith, h)),
@@ -96,14 +96,14 @@ module _ (flash : List ℕ) (full : length flash ≡ 2097152) where
 blank_of : (n : ℕ) → n ≡ 2097152 → internal_boot (replicate n 0) ≡ boots (Mode.Serial Entered.FromInternal) 0 6
 blank_of n e = none_good (replicate n 0) (length-replicate n 0 ∙ e) (zeroes n)
 
-with5A-of
+with_5a-of
     : (n m : ℕ)
     → n ≡ 0x1C001
     → n + suc m ≡ 2097152
     → internal_boot (replicate n 0 ++ 0x5A ∷ replicate m 0) ≡ boots Mode.Internal 0x1C000 4
-with5A-of n m e f =
+with_5a-of n m e f =
     let flash : List ℕ = replicate n 0 ++ 0x5A ∷ replicate m 0 in
-    fourth-good
+    fourth_good
     flash
     (length-append (replicate n 0) (0x5A ∷ replicate m 0) ∙ omega (arith, length-replicate {A = ℕ} n 0, length-replicate {A = ℕ} m 0, f))
     (λ at h. elsewhere n 0x5A m at (λ g. h (g ∙ e)))
@@ -113,4 +113,4 @@ pub blank-boots : internal_boot blank ≡ boots (Mode.Serial Entered.FromInterna
 blank-boots = blank_of 2097152 refl
 
 pub fourth_boots : internal_boot (with_5a 0x1C000) ≡ boots Mode.Internal 0x1C000 4
-fourth_boots = with5A-of (0x1C000 + 1) (2097150 - 0x1C000) refl refl
+fourth_boots = with_5a-of (0x1C000 + 1) (2097150 - 0x1C000) refl refl

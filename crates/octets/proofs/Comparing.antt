@@ -29,13 +29,13 @@ pub same_length : (l m : List ℕ) → (length l ≡ length m → ⊥) → same 
 same_length l m h = untrue (same l m) (λ e. h (ap length (same_equal l m e)))
 
 module _ (a b : List ℕ) (i : ℕ) where
-  pub same-on
+  pub same_on
       : i < length a
       → i < length b
       → get_or a i 0 ≡ get_or b i 0
       → same (drop i a) (drop i b) ≡ same (drop (i + 1) a) (drop (i + 1) b)
   unfolding same
-  same-on h k e = rw (drop-cons a i 0, drop-cons b i 0, eq-eqb (get_or a i 0) (get_or b i 0) e, add-one)
+  same_on h k e = rw (drop-cons a i 0, drop-cons b i 0, eq-eqb (get_or a i 0) (get_or b i 0) e, add-one)
 
   pub same_differs
       : i < length a

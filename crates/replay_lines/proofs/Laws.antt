@@ -111,12 +111,12 @@ digit_last (suc more) rest h =
     rw below
 
 module _ {line : List ℕ} {end n : ℕ} {now : List ℕ} {start rest more : ℕ} (h : end ≤ length line) (spelling : Spelling line end n now start rest more) where
-  pub spelling-on
+  pub spelling_on
       : {next : List ℕ} {before : ℕ}
       → leb 10 rest && ltb 0 more ≡ true
       → Wrote now next (last_digit rest ∷ []) before start
       → Spelling line end n next before (rest / 10) (more - 1)
-  spelling-on {next} {before} test wrote =
+  spelling_on {next} {before} test wrote =
       let t = (and-eq-true_iff (leb 10 rest) (ltb 0 more)).0 test in
       let some = ltb-true 0 more t.1 in
       record {
@@ -126,12 +126,12 @@ module _ {line : List ℕ} {end n : ℕ} {now : List ℕ} {start rest more : ℕ
         room = omega (arith, wrote.ends, spelling.room);
       }
 
-  pub spelling-last
+  pub spelling_last
       : {next : List ℕ} {before : ℕ}
       → leb 10 rest && ltb 0 more ≡ false
       → Wrote now next (last_digit rest ∷ []) before start
       → Wrote line next (decimal n) before end
-  spelling-last {next} {before} test wrote =
+  spelling_last {next} {before} test wrote =
       let whole : last_digit rest ∷ spelling.text ≡ decimal n
       = ap (λ (l : List ℕ). l ++ spelling.text) (digit_last more rest test) ∙ spelling.digits in
       rw (← whole) (further h spelling.wrote wrote)

@@ -42,16 +42,16 @@ module _ (window : List ℕ) (last : Bool) (room : ℕ) where
   plays-within : (more : ℕ) (p : Playing) → p.at ≤ length window → (up_to more p).ended ≡ false
       → Since p (up_to more p)
   plays-within zero p inside e = (omega arith, inside, omega arith)
-  plays-within (suc more) p inside e = by-ready (ready window last room p) (plays-within more (onward window p)) e
+  plays-within (suc more) p inside e = by_ready (ready window last room p) (plays-within more (onward window p)) e
     where
-      by-ready
+      by_ready
           : (t : Bool)
           → ((onward window p).at ≤ length window → (up_to more (onward window p)).ended ≡ false
           → Since (onward window p) (up_to more (onward window p)))
           → (cond t (up_to more (onward window p)) p).ended ≡ false
           → Since p (cond t (up_to more (onward window p)) p)
-      by-ready false on e = (omega arith, inside, omega arith)
-      by-ready true on e = by_over (onward window p).ended refl
+      by_ready false on e = (omega arith, inside, omega arith)
+      by_ready true on e = by_over (onward window p).ended refl
         where
           by_over : (o : Bool) → (onward window p).ended ≡ o → Since p (up_to more (onward window p))
           by_over true o = absurd (false≢true (sym e ∙ over_stays more (onward window p) o))

@@ -137,15 +137,15 @@ module _ (window : List ℕ) (last : Bool) (room : ℕ) (rest : List ℕ) (none 
 
   plays-whole : (more : ℕ) (p : Playing) → Whole p ≡ Whole (plays more window last room p)
   plays-whole zero p = refl
-  plays-whole (suc more) p = by-ready (ready window last room p) refl (λ e. onward-whole p e ∙ plays-whole more (onward window p))
+  plays-whole (suc more) p = by_ready (ready window last room p) refl (λ e. onward-whole p e ∙ plays-whole more (onward window p))
     where
-      by-ready
+      by_ready
           : (t : Bool)
           → ready window last room p ≡ t
           → (ready window last room p ≡ true → Whole p ≡ Whole (plays more window last room (onward window p)))
           → Whole p ≡ Whole (cond t (plays more window last room (onward window p)) p)
-      by-ready true e h = h e
-      by-ready false e h = refl
+      by_ready true e h = h e
+      by_ready false e h = refl
 
   -- the text for the window with what follows it, by the result of a call
   pub played-whole : (kept : Carried) → text_from kept (window ++ rest) ≡ Whole (played_in window last room kept)

@@ -79,11 +79,11 @@ module _ (ordinal : ℕ) (handled : Handled) (sram : List ℕ) where
   by_test true false = ((λ out. refl), refl)
   by_test false k = ((λ out. refl), refl)
 
-  pub printing-same
+  pub printing_same
       : ((out : Output) → result_with (printed_of (printing_after ordinal (as_handling handled [])) out) (kept_after ordinal (as_handling handled sram)) ≡ printing_result (printing_after ordinal (as_handling handled sram)) out)
       × ((printing_after ordinal (as_handling handled [])).text ≡ (printing_after ordinal (as_handling handled sram)).text)
   unfolding printing_after printing_by
-  printing-same = by_test (eqb handled.read 0) (eqb handled.kind 0)
+  printing_same = by_test (eqb handled.read 0) (eqb handled.kind 0)
 
 -- the same of what `replay_record::handle` returned
 module _ (kept : Carried) (read : Read) (handled : Handled) (sram : List ℕ) (handled-is : as_handling handled sram ≡ handling_of kept.session kept.sram read) where
@@ -92,7 +92,7 @@ module _ (kept : Carried) (read : Read) (handled : Handled) (sram : List ℕ) (h
   printing_is = ap (printing_after kept.ordinal) handled-is
 
   pub printing-text : (printing_after kept.ordinal (as_handling handled [])).text ≡ (printing_of kept read).text
-  printing-text = (printing-same kept.ordinal handled sram).1 ∙ ap (λ (s : Printing). s.text) printing_is
+  printing-text = (printing_same kept.ordinal handled sram).1 ∙ ap (λ (s : Printing). s.text) printing_is
 
   pub result-printed
       : (printed : Turn) (after : List ℕ) (out : Output)
@@ -100,5 +100,5 @@ module _ (kept : Carried) (read : Read) (handled : Handled) (sram : List ℕ) (h
       → as_call_result record { turn = printed; session = handled.result.session } sram after ≡ printing_result (printing_of kept read) out
   result-printed printed after out e =
       ap (λ (p : Printed). result_with p (kept_after kept.ordinal (as_handling handled sram))) e
-      ∙ (printing-same kept.ordinal handled sram).0 out
+      ∙ (printing_same kept.ordinal handled sram).0 out
       ∙ ap (λ (s : Printing). printing_result s out) printing_is

@@ -180,7 +180,7 @@ module _
         let begun = (load_begun port start vle password (length image)).sender in
         record {
           same_answers = answers;
-          same-side =
+          same_side =
               ap (λ (echoes : List Echo). hearing echoes port image begun)
               (sym (map-map (λ (answer : Answer). answer.echo) (λ (call : Call). call.answer)
               (only (λ (call : Call). in_stream (picked_port list) call.item) (ran (fresh_session configuration) sram list).calls))

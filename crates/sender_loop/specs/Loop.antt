@@ -141,7 +141,7 @@ pub record Amid (port : Port) (image : List ℕ) (sender : Sender) (items : List
       ≡ in_turns (λ turn. turn.answer) loop
   pub others : only (λ (call : Call). not (in_stream (picked_port items) call.item)) run.calls
       ≡ map call_outside (only (λ (item : Item). not (in_stream (picked_port items) item)) items)
-  pub same-side
+  pub same_side
       : hearing
       (map (λ (call : Call). call.answer.echo) (only (λ (call : Call). in_stream (picked_port items) call.item) run.calls))
       port
