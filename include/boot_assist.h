@@ -38,8 +38,8 @@ extern "C" {
 #define BOOT_ASSIST_VERSION 2
 
 /* The stack that a call needs at most, in bytes: measured on x86-64, where boot_assist_list needs the most, and rounded
- * up. The library uses memcpy of the C library; a program that is linked to look it up only when it is first called
- * (without -z now) needs several thousand bytes more in that one call, for the dynamic linker. */
+ * up. The library uses memcpy and memmove of the C library; a program that is linked to look each up only when it is first
+ * called (without -z now) needs several thousand bytes more in that one call, for the dynamic linker. */
 #define BOOT_ASSIST_STACK 1024
 
 /* The head's SRAM: sram[0] is the byte at BOOT_ASSIST_SRAM_BASE, and the byte at an address is
