@@ -21,20 +21,20 @@ pub precheck_passed : (session : Session) (sram : List ℕ) (formed : Bool) → 
     → Accepted session sram × (formed ≡ true)
 unfolding precheck
 precheck_passed session sram formed e =
-    let h = All-three (right_size session.configuration sram) (sound session) formed e in
+    let h = all_three (right_size session.configuration sram) (sound session) formed e in
     (record { right = h.0; fine = h.1 }, h.2)
   where
     refused : (fault : Fault) → Prechecked.Refused fault ≡ Prechecked.Passed → ⊥
     refused fault e = let z : ◌≡◌ {A = ℕ} 0 1 = cc in omega arith
 
-    All-three
+    all_three
         : (a b c : Bool)
         → cond a (cond b (cond c Prechecked.Passed (Prechecked.Refused Fault.Form)) (Prechecked.Refused Fault.Unsound)) (Prechecked.Refused Fault.Size) ≡ Prechecked.Passed
         → (a ≡ true) × (b ≡ true) × (c ≡ true)
-    All-three false b c e = absurd (refused Fault.Size e)
-    All-three true false c e = absurd (refused Fault.Unsound e)
-    All-three true true false e = absurd (refused Fault.Form e)
-    All-three true true true e = (refl, refl, refl)
+    all_three false b c e = absurd (refused Fault.Size e)
+    all_three true false c e = absurd (refused Fault.Unsound e)
+    all_three true true false e = absurd (refused Fault.Form e)
+    all_three true true true e = (refl, refl, refl)
 
 -- no refused call has number 0
 pub fault_some : (fault : Fault) → fault_number fault ≡ 0 → ⊥
