@@ -1,5 +1,5 @@
 #!/usr/bin/env python3
-"""Brings the names of definitions and lemmas to today's spelling, once, after /opt/rattle/port/port.py.
+"""Brings the names of definitions and lemmas to today's spelling, once, after the kit's port.py.
 
 Words are in snake case. A dash stays only where it joins the names of two definitions, as in `length-drop`. A lemma that would
 take the name of something else gets `_lem`. Functions of src/, exported names, strings, inputs and outputs keep their names.
