@@ -1,12 +1,12 @@
 -- Two groups of zeroes with bytes in them: those gathered, and of these the groups that are full.
-use Prim.Native.Nat.{ℕ, ◌+◌, ◌-◌, ◌*◌, ◌/◌, ◌%◌, ◌≤◌}
+use Prim.Native.Nat.{ℕ, ◌+◌, ◌-◌, ◌*◌, ◌/◌, ◌%◌, ◌≤◌, min}
 use native.Mathlib.Omega.{arith}
 use mathlib.Core.Path.{◌≡◌, refl, sym, ap, ◌∙◌}
 use mathlib.Core.List.{List, [], ◌++◌, append_assoc}
 use mathlib.Core.Bool.{Bool, true, false, ◌&&◌}
 use borrow.Author.Tests.{leb-true, leb-false}
 use lib.Dec.{leb}
-use lib.ListN.{length, take, length-append}
+use lib.ListN.{length, take, length-append, length-take}
 use lib.Seq.{take_at, drop_at, drop-drop, take-append-le, take-append-add}
 use Rattle.buffers.specs.Write.{over, over_from}
 use Rattle.octets.proofs.Cases.{by_test}
@@ -15,6 +15,11 @@ use Rattle.sram.specs.Region.{right_size, in_range, stored, stored_in_range}
 use Rattle.sram.proofs.Laws.{stored_none}
 use Rattle.sram_groups.specs.Groups.{group_of, zeros, full_groups, behind, written}
 use Rattle.sram_groups.proofs.Laws.{zeros-length, zeros-take, zeros-drop, behind_few, written_none}
+
+-- how many bytes there are, those held and more behind them
+pub together-length : (count : ℕ) (held bytes : List ℕ) → length held ≡ 8 → length (take count held ++ bytes) ≡ min count 8 + length bytes
+together-length count held bytes eight =
+    length-append (take count held) bytes ∙ omega (arith, rw eight at (length-take count held))
 
 -- bytes laid from a place on, and more behind them
 pub gathered : (from all : ℕ) (x y : List ℕ) → from + length x + length y ≤ all
