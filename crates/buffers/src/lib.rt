@@ -46,8 +46,8 @@ pub fn eight_of(bytes: &[u8]) -> [u8; 8]
 
 // Moves the bytes from a place on to the start, and returns how many they are. The places behind them keep theirs.
 pub fn slide(s: &mut [u8], from: usize) -> usize
-    ensures value { result ≡ length s.old - from }
-    ensures s_after { s.new ≡ over (drop from s.old) s.old }
+    ensures count { result ≡ length s.old - from }
+    ensures contents { s.new ≡ over (drop from s.old) s.old }
 {
     let moved = octets::difference(s.len(), from);
     for i in 0..moved {

@@ -62,8 +62,8 @@ pub fn read<'a>(
     kind: &mut u8,
     next: &mut usize,
 ) -> &'a [u8]
-    ensures result_after { as_read number.new kind.new next.new result.now ≡ reads capture.now at }
-    ensures ref_ptr_value { result.ref_ptr ≡ beyond capture.entry.ref_ptr (body_at capture.now at) }
+    ensures given { as_read number.new kind.new next.new result.now ≡ reads capture.now at }
+    ensures place { result.ref_ptr ≡ beyond capture.entry.ref_ptr (body_at capture.now at) }
 {
     *kind = 0;
     *next = at;

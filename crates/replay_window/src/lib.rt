@@ -60,8 +60,8 @@ fn print_last(out: &mut [u8], used: usize, ordinal: u64, stage: Stage) -> Turn
 // The line of a record that was answered.
 fn print_record(out: &mut [u8], used: usize, ordinal: u64, taken: usize, answer: Answer) -> Turn
     requires { ordinal < 0xFFFF_FFFF_FFFF_FFFF }
-    ensures out_after { as_printed result out.new ≡ printed_at taken false (ordinal + 1) (appended (as_output out.old used) (record_line ordinal (outcome_number answer.outcome) (echo_bytes answer.echo))) }
-    ensures echo_len_bound { length (echo_bytes answer.echo) ≤ 8 }
+    ensures printed { as_printed result out.new ≡ printed_at taken false (ordinal + 1) (appended (as_output out.old used) (record_line ordinal (outcome_number answer.outcome) (echo_bytes answer.echo))) }
+    ensures short_echo { length (echo_bytes answer.echo) ≤ 8 }
 {
     let outcome = answer.outcome;
     let echo = answer.echo;
@@ -78,8 +78,8 @@ fn print_record(out: &mut [u8], used: usize, ordinal: u64, taken: usize, answer:
 // Prints a record that was handled. Its text does not depend on SRAM, which the contract does not name.
 fn print_handled(handled: Handled, ordinal: u64, out: &mut [u8], used: usize) -> Turn
     requires { (ordinal < 0xFFFF_FFFF_FFFF_FFFF) × (used + 96 ≤ length out.old) }
-    ensures out_after { as_printed result out.new ≡ printed_of (printing_after ordinal (as_handling handled [])) (as_output out.old used) }
-    ensures handled_len_bound { length (printing_after ordinal (as_handling handled [])).text ≤ 96 }
+    ensures printed { as_printed result out.new ≡ printed_of (printing_after ordinal (as_handling handled [])) (as_output out.old used) }
+    ensures short_text { length (printing_after ordinal (as_handling handled [])).text ≤ 96 }
 {
     let result = handled.result;
     let answer = result.answer;
@@ -127,7 +127,7 @@ pub fn play(
     sram: &mut [u8],
     out: &mut [u8],
 ) -> Played
-    ensures out_after { as_call_result result sram.new out.new
+    ensures played { as_call_result result sram.new out.new
         ≡ result_after (played_in window.now last (length out.old) (keeping ordinal session sram.old)) out.old }
     ensures continues { Continues window.now last (keeping ordinal session sram.old) (as_call_result result sram.new out.new) }
 {

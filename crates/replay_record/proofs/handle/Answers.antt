@@ -13,7 +13,7 @@ returns-then-read-kind c =
     let kind = call.new.kind in
     let next = call.new.next in
     ap (λ (result : StepResult). handled_as read kind next (result_of result a.sram.now)) c.take_nothing.ensures
-    ∙ handling_none a.session a.sram.now a.bytes.now read kind next call.result.now call.ensures.result_after c.if-read-kind.true
+    ∙ handling_none a.session a.sram.now a.bytes.now read kind next call.result.now call.ensures.given c.if-read-kind.true
 
 pub returns : goal.returns
 returns c =
@@ -23,4 +23,4 @@ returns c =
     let kind = call.new.kind in
     let next = call.new.next in
     ap (λ (result : Result). handled_as read kind next result) c.step_record.ensures
-    ∙ handling_one a.session a.sram.now a.bytes.now read kind next call.result.now call.ensures.result_after c.if-read-kind.false
+    ∙ handling_one a.session a.sram.now a.bytes.now read kind next call.result.now call.ensures.given c.if-read-kind.false

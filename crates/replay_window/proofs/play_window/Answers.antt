@@ -9,4 +9,4 @@ pub returns : goal.returns
 returns c =
     let a = c.args in
     let p = played_in a.window.now a.last (length a.out.now) (keeping a.progress.ordinal a.progress.session a.sram.now) in
-    window-played a.window.now a.out.now p c.play-played.result _ _ c.play-played.ensures.out_after c.slide.result c.slide.ensures.value _ c.slide.ensures.s_after
+    window-played a.window.now a.out.now p c.play-played.result _ _ c.play-played.ensures.played c.slide.result c.slide.ensures.count _ c.slide.ensures.contents
