@@ -1,11 +1,11 @@
 -- A loop that copies a list over the first places of another, one element a turn.
-use Prim.Native.Nat.{ℕ, suc, ◌+◌, ◌≤◌, ◌<◌}
+use Prim.Native.Nat.{ℕ, suc, ◌+◌, ◌<◌}
 use native.Mathlib.Numerals.{add-one}
 use native.Mathlib.Omega.{arith}
 use mathlib.Core.Path.{◌≡◌, sym, ap, ◌∙◌}
 use mathlib.Core.List.{List, ◌++◌}
-use lib.ListN.{length, take, drop, get_or, set, length-append, length-drop}
-use lib.Seq.{take-suc, drop-cons, set_at, append_snoc, length-take-le, take_all, get_or-append-add, get_or-drop}
+use lib.ListN.{length, take, drop, get_or, set}
+use lib.Seq.{take-suc, drop-cons, set_at, append_snoc, length-take-le, get_or-append-add, get_or-drop}
 
 -- after i turns
 abbrev pub Copied : List ℕ → List ℕ → ℕ → List ℕ → Type 0
@@ -17,17 +17,6 @@ turn bytes list i out e h k =
     rw (e, add-one, take-suc bytes i 0 h, drop-cons list i 0 k)
     (set_at (take i bytes) (get_or list i 0) (drop (suc i) list) (get_or bytes i 0) i (length-take-le i bytes (omega arith))
     ∙ sym (append_snoc (take i bytes) (get_or bytes i 0) (drop (suc i) list)))
-
-pub kept : (bytes list : List ℕ) (i : ℕ) (out : List ℕ) → Copied bytes list i out → i ≤ length bytes → i ≤ length list
-    → length out ≡ length list
-kept bytes list i out e h k =
-    ap length e
-    ∙ length-append (take i bytes) (drop i list)
-    ∙ omega (arith, length-take-le i bytes h, length-drop i list)
-
-pub done : (bytes list : List ℕ) (i : ℕ) (out : List ℕ) → Copied bytes list i out → i ≡ length bytes
-    → out ≡ bytes ++ drop (length bytes) list
-done bytes list i out e all = e ∙ rw (all, take_all (length bytes) bytes (omega arith))
 
 -- where the bytes copied are those from a place of the list on, the next of them still stands
 pub ahead : (list : List ℕ) (from i : ℕ) (out : List ℕ) → Copied (drop from list) list i out → i < length (drop from list)

@@ -1,11 +1,10 @@
--- The numbers of an answer taken apart are whole again, and how many there are; an answer put in its places; and the number of how serial boot was
--- entered is read back.
+-- How many numbers an answer has; an answer put in its places; and the number of how serial boot was entered is read back.
 use Prim.Native.Nat.{ℕ}
 use mathlib.Core.Path.{◌≡◌, refl, sym, ◌∙◌}
-use mathlib.Core.List.{List, [], ◌∷◌}
+use mathlib.Core.List.{List}
 use mathlib.Core.Bool.{true, and-eq-true_iff}
 use lib.Dec.{eqb}
-use lib.ListN.{length, get_or}
+use lib.ListN.{length}
 use borrow.Author.Tests.{eqb-true}
 use Rattle.buffers.specs.Write.{filled}
 use Rattle.buffers.proofs.Eight.{eight-whole}
@@ -19,17 +18,6 @@ pub entered_back : (entered : Entered) → entered_of (entered_number entered) �
 entered_back Entered.Directly = refl
 entered_back Entered.FromInternal = refl
 entered_back Entered.FromExternal = refl
-
--- the first two numbers
-abbrev two : List ℕ → List ℕ
-two l = get_or l 0 0 ∷ get_or l 1 0 ∷ []
-
-pub jump_whole : (outcome : Outcome) → two (jump_numbers outcome) ≡ jump_numbers outcome
-jump_whole Outcome.Taken = refl
-jump_whole Outcome.Ignored = refl
-jump_whole (Outcome.Stops refusal) = refl
-jump_whole (Outcome.Jumps jump) = refl
-jump_whole (Outcome.Refused fault) = refl
 
 jump_length : (outcome : Outcome) → length (jump_numbers outcome) ≡ 2
 jump_length Outcome.Taken = refl

@@ -3,9 +3,9 @@ use Prim.Native.Nat.{ℕ, ◌+◌, ◌*◌, ◌≤◌, ◌<◌}
 use native.Mathlib.Numerals.{add-one}
 use native.Mathlib.Omega.{arith}
 use mathlib.Core.Path.{◌≡◌, refl, ap, ◌∙◌}
-use mathlib.Core.List.{List, [], ◌∷◌, ◌++◌, append-nil}
-use lib.ListN.{length, get_or, take, drop, length-append, length-drop, drop_of_length-le}
-use lib.Seq.{take_at, drop-append-add, drop-drop, length-take-le, take_all, take-suc}
+use mathlib.Core.List.{List, [], ◌∷◌, ◌++◌}
+use lib.ListN.{length, get_or, take, drop}
+use lib.Seq.{take_at, drop-append-add, drop-drop, length-take-le, take-suc}
 use Rattle.buffers.specs.Write.{filled}
 use Rattle.buffers.proofs.Lending.{lent, back, put_back}
 use Rattle.mmu.specs.declared.Row.{Row}
@@ -54,12 +54,3 @@ module _ (out₀ : List ℕ) (rows : List Row) (i : ℕ) (five : length rows ≡
       ∙ behind (table_numbers (take i rows)) (drop (8 * i) out₀) (row_numbers (get_or rows i d)) (8 * i) 8 (written-length (omega arith))
       ∙ ap (λ (l : List ℕ). l ++ drop 8 (drop (8 * i) out₀)) (one_more d h)
       ∙ ap (λ (l : List ℕ). table_numbers (take (i + 1) rows) ++ l) (drop-drop 8 (8 * i) out₀ ∙ ap (λ (k : ℕ). drop k out₀) n)
-
-  pub kept : (out : List ℕ) → Written out₀ rows i out → i ≤ 5 → length out₀ ≡ 40 → length out ≡ length out₀
-  kept out e h long = rw (e, length-append, length-drop) (omega (arith, written-length h))
-
-  pub done : (out : List ℕ) → Written out₀ rows i out → 5 ≤ i → length out₀ ≡ 40 → out ≡ table_numbers rows
-  done out e h long =
-      let m : length rows ≤ i = omega arith in
-      let n : length out₀ ≤ 8 * i = omega arith in
-      rw (e, take_all i rows m, drop_of_length-le out₀ n, append-nil)

@@ -1,4 +1,3 @@
-pub mod Past
 pub mod Comparing
 pub mod Cases
 pub mod Taking

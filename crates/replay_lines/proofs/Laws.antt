@@ -7,8 +7,8 @@ use mathlib.Core.List.{List, [], ◌∷◌, ◌++◌, append-nil, append_assoc}
 use mathlib.Core.Bool.{Bool, true, false, cond, ◌&&◌, and-true, and-eq-true_iff}
 use borrow.Author.Tests.{le-leb, lt-leb, lt-ltb, leb-true, ltb-true}
 use lib.Dec.{leb, ltb}
-use lib.ListN.{length, take, drop, get_or, set, length-append, length-drop, take-append-drop, drop_of_length-le}
-use lib.Seq.{take_all, take-take, take-append-le, take_at, drop_at, drop-append-add, drop-drop, drop-cons, length-take-le, set_split, append_snoc}
+use lib.ListN.{length, take, drop, set, length-append, length-drop, take-append-drop, drop_of_length-le}
+use lib.Seq.{take_all, take-take, take-append-le, take_at, drop_at, drop-append-add, drop-drop, length-take-le, set_split, append_snoc}
 use Rattle.octets.specs.Bytes.{word_bytes}
 use Rattle.buffers.specs.Write.{filled}
 use Rattle.buffers.proofs.Lending.{lent, back, put_back}
@@ -93,10 +93,6 @@ pub record Spelling (line : List ℕ) (end n : ℕ) (now : List ℕ) (start rest
   pub digits : decimal_in more rest ++ text ≡ decimal n
   pub room : start + 19 ≡ end + more
 
-pub spelling_first : (line : List ℕ) (end n : ℕ) → Spelling line end n line end n 19
-spelling_first line end n =
-    record { text = []; wrote = nothing line end; digits = append-nil (decimal n); room = refl }
-
 digit_more : (more rest : ℕ) (text : List ℕ) → 10 ≤ rest → 0 < more
     → decimal_in (more - 1) (rest / 10) ++ (last_digit rest ∷ text) ≡ decimal_in more rest ++ text
 digit_more zero rest text h k = absurd (omega arith)
@@ -147,17 +143,6 @@ decimal-length (suc more) n = by_test (leb 10 n) (decimal-length more (n / 10))
     by_test true h = omega (arith, length-append (decimal_in more (n / 10)) (last_digit n ∷ []), h)
     by_test false h = omega arith
 
--- The bytes from a position on, and one more in front of them.
-pub byte_more : (bytes : List ℕ) (unwritten : ℕ) → 0 < unwritten → unwritten ≤ length bytes
-    → get_or bytes (unwritten - 1) 0 ∷ drop unwritten bytes ≡ drop (unwritten - 1) bytes
-byte_more bytes unwritten some h =
-    let on : suc (unwritten - 1) ≡ unwritten = omega arith in
-    sym (drop-cons bytes (unwritten - 1) 0 (omega arith) ∙ rw on)
-
-pub hex_more : (bytes : List ℕ) (unwritten : ℕ) → 0 < unwritten → unwritten ≤ length bytes
-    → hex_of (get_or bytes (unwritten - 1) 0 ∷ []) ++ hex_of (drop unwritten bytes) ≡ hex_of (drop (unwritten - 1) bytes)
-hex_more bytes unwritten some h = ap hex_of (byte_more bytes unwritten some h)
-
 pub hex_length : (bytes : List ℕ) → length (hex_of bytes) ≡ 2 * length bytes
 hex_length [] = refl
 hex_length (byte ∷ bytes) = omega (arith, hex_length bytes)
@@ -172,15 +157,6 @@ module _ (out : List ℕ) (used : ℕ) (text : List ℕ) where
       → as_output (back out used (filled text (lent out used))) (used + length text) ≡ appended (as_output out used) text
   unfolding appended
   has_room h = rw (le-leb (used + length text) (length out) h, put_back out text used h)
-
--- An echo is the digits of its bytes, or "-".
-pub echo_none : (echo : List ℕ) → length echo ≡ 0 → ascii "-" ≡ echo_text echo
-echo_none [] e = refl
-echo_none (byte ∷ bytes) e = absurd (omega arith)
-
-pub echo_some : (echo : List ℕ) → 0 < length echo → hex_of echo ≡ echo_text echo
-echo_some [] h = absurd (omega arith)
-echo_some (byte ∷ bytes) h = refl
 
 pub echo_length : (echo : List ℕ) → length echo ≤ 8 → length (echo_text echo) ≤ 16
 echo_length [] h = omega arith

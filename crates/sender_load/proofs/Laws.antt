@@ -1,14 +1,12 @@
 -- The bytes of an item, and when a header fits.
-use Prim.Native.Nat.{ℕ, ◌+◌, ◌≤◌, ◌<◌, min}
+use Prim.Native.Nat.{ℕ, ◌+◌, ◌≤◌, ◌<◌}
 use native.Mathlib.Omega.{arith}
 use mathlib.Core.Path.{◌≡◌, refl, sym, ap, ◌∙◌}
 use mathlib.Core.List.{List}
 use mathlib.Core.Bool.{Bool, true, false, cond, not, ◌&&◌, and-eq-true_iff, true≢false, false≢true}
 use borrow.Author.Tests.{ltb-true, leb-true, leb-false}
 use lib.Dec.{leb, ltb, eqb}
-use lib.ListN.{length, take, length-take}
-use lib.Seq.{take_all}
-use Rattle.octets.proofs.Taking.{take_least}
+use lib.ListN.{length}
 use Rattle.session_configuration.specs.declared.Configuration.{Configuration}
 use Rattle.session_state.specs.declared.Port.{Port}
 use Rattle.session_state.specs.declared.Refusal.{Refusal}
@@ -24,12 +22,6 @@ use Rattle.sender_load.specs.Items.{width, load_header, at_item, sound_load}
 pub few_bytes : (port : Port) → width port ≤ 8
 few_bytes Port.Can = omega arith
 few_bytes Port.Serial = omega arith
-
-pub cut : (port : Port) (list : List ℕ) → take 8 (take (min (width port) (length list)) list) ≡ take (width port) list
-cut port list =
-    let first = take (min (width port) (length list)) list in
-    take_all 8 first (omega (arith, length-take (min (width port) (length list)) list, few_bytes port))
-    ∙ take_least (width port) (length list) list refl
 
 -- what is judged to fit is what fits
 abbrev pub is_fit : Validated → Bool

@@ -2,8 +2,8 @@
 use Prim.Native.Nat.{ℕ, ◌+◌, ◌-◌, ◌≤◌}
 use native.Mathlib.Omega.{arith}
 use mathlib.Core.Path.{◌≡◌, ◌∙◌}
-use mathlib.Core.List.{List, append-nil}
-use lib.ListN.{length, take, length-append, drop_of_length-le}
+use mathlib.Core.List.{List}
+use lib.ListN.{length, take, length-append}
 use lib.Seq.{length-take-le}
 use borrow.Rule.Slice.PartMut.{mid_of, put_mid}
 use Rattle.buffers.specs.Write.{over, filled}
@@ -16,12 +16,6 @@ module _ (session : Session) (bytes : List ℕ) (eight : length session.held ≡
   received-length =
       length-append (take session.count session.held) bytes
       ∙ omega (arith, length-take-le session.count session.held (omega arith))
-
-  -- 8 bytes take up all the places
-  pub received-whole : session.count + length bytes ≡ 8 → over (received session bytes) session.held ≡ received session bytes
-  received-whole full =
-      let all = received session bytes in
-      rw (drop_of_length-le session.held {i = length all} (omega (arith, received-length)), append-nil)
 
   -- the places behind those held, lent, filled and given back
   pub held_back
