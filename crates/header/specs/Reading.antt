@@ -1,11 +1,10 @@
 -- The header of a load (01, "A serial session"; 003).
-use Rattle.std.specs.Prelude.{ℕ, ◌/◌, ◌%◌, ◌*◌, List, Bool, cond, not, ◌&&◌, eqb}
+use Rattle.std.specs.Prelude.{ℕ, ◌/◌, ◌%◌, ◌*◌, List, Bool, cond, not, ◌&&◌, eqb, Result, Ok, Err}
 use Rattle.octets.specs.Read.{byte_at, word_at}
 use Rattle.session_configuration.specs.declared.Configuration.{Configuration}
 use Rattle.sram.specs.Region.{in_range}
 use Rattle.session_state.specs.declared.Refusal.{Refusal}
 use Rattle.header.specs.declared.Header.{Header}
-use Rattle.header.specs.declared.Validated.{Validated}
 
 -- "4 bytes start, whose two lowest bits are dropped; then the VLE bit and 31 bits of length", whatever the session's configuration
 abbrev pub header_read : Configuration → List ℕ → Header
@@ -29,7 +28,7 @@ abbrev pub fits : Configuration → Header → Bool
 fits configuration header = not (announces_none header) && within configuration header
 
 -- "Length 0 stops the session; otherwise start and length must lie wholly in SRAM or the session stops."
-unfoldable pub validated : Configuration → Header → Validated
+unfoldable pub validated : Configuration → Header → Result Header Refusal
 validated configuration header =
-    cond (announces_none header) (Validated.Refused Refusal.Length)
-    (cond (within configuration header) (Validated.Fits header) (Validated.Refused Refusal.Range))
+    cond (announces_none header) (Err Refusal.Length)
+    (cond (within configuration header) (Ok header) (Err Refusal.Range))

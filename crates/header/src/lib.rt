@@ -16,13 +16,6 @@ pub struct Header {
     pub length: u32,
 }
 
-// A header that is refused, with 3 or 4 (`session_answers: Answers.refusal_number` gives the number), or one that fits.
-#[derive(Clone, Copy)]
-pub enum Validated {
-    Refused(Refusal),
-    Fits(Header),
-}
-
 // What 8 bytes say as a header.
 fn read(configuration: Configuration, bytes: [u8; 8]) -> Header
     ensures { result ≡ header_read configuration bytes }
@@ -30,29 +23,29 @@ fn read(configuration: Configuration, bytes: [u8; 8]) -> Header
     let all = &bytes[..];
     let start = sram::align(octets::word(all, 0));
     Header {
-        start: start,
+        start,
         vle: octets::byte(all, 4) / 128 == 1,
         length: octets::word(all, 4) % 0x8000_0000,
     }
 }
 
-// Whether a header fits.
+// A header that fits, or why it is refused (`session_answers: Answers.refusal_number` gives the number, 3 or 4).
 #[tactic(auto, unfolding(crate::specs::Reading::validated))]
-fn check(configuration: Configuration, header: Header) -> Validated
+fn check(configuration: Configuration, header: Header) -> Result<Header, Refusal>
     ensures { result ≡ validated configuration header }
 {
     let start = header.start;
     if header.length == 0 {
-        return Validated::Refused(Refusal::Length);
+        return Err(Refusal::Length);
     }
-    if sram::is_in_range(configuration, start.0, header.length) {
-        return Validated::Fits(header);
+    if !sram::is_in_range(configuration, start.0, header.length) {
+        return Err(Refusal::Range);
     }
-    Validated::Refused(Refusal::Range)
+    Ok(header)
 }
 
 // What becomes of 8 header bytes.
-pub fn validate(configuration: Configuration, bytes: [u8; 8]) -> Validated
+pub fn validate(configuration: Configuration, bytes: [u8; 8]) -> Result<Header, Refusal>
     ensures { result ≡ validated configuration (header_read configuration bytes) }
 {
     check(configuration, read(configuration, bytes))
