@@ -2,7 +2,6 @@
 #![tactic(auto)]
 
 ghost use Rattle.std.specs.Prelude.{◌≡◌};
-ghost use Rattle.octets.specs.Same.{same};
 ghost use Rattle.sender_echo.specs.Hearing.{heard_under, is_echo};
 
 use session_answers::Echo;
@@ -12,40 +11,18 @@ use session_state::Port;
 fn is_heard_under(port: Port, heard: Port, due: u32, identifier: u32) -> bool
     ensures { result ≡ heard_under port heard due identifier }
 {
-    match port {
-        Port::Can => match heard {
-            Port::Can => identifier == due,
-            Port::Serial => false,
-        },
-        Port::Serial => match heard {
-            Port::Can => false,
-            Port::Serial => true,
-        },
+    match (port, heard) {
+        (Port::Can, Port::Can) => identifier == due,
+        (Port::Serial, Port::Serial) => true,
+        _ => false,
     }
-}
-
-// Whether two lists have the same bytes.
-#[tactic(auto, using(octets::proofs::Comparing::same_length))]
-fn is_same(a: &[u8], b: &[u8]) -> bool
-    ensures { result ≡ same a.now b.now }
-{
-    if a.len() != b.len() {
-        return false;
-    }
-    for i in 0..a.len() {
-        if a[i] != b[i] {
-            return false;
-        }
-    }
-    true
 }
 
 // Whether what is heard is the echo due.
-#[tactic(auto, using(octets::proofs::Taking::take_least), unfolding(crate::specs::Hearing::is_echo))]
+#[tactic(auto, using(octets::proofs::Taking::take_least, crate::proofs::Bytes::same_pointwise), unfolding(crate::specs::Hearing::is_echo))]
 pub fn is_echo(port: Port, due: Echo, heard: Port, identifier: u32, bytes: &[u8]) -> bool
     ensures { result ≡ is_echo port due heard identifier bytes.now }
 {
-    let expected = due.bytes;
     let count = octets::least(due.length as usize, 8);
-    is_heard_under(port, heard, due.identifier, identifier) & is_same(bytes, &expected[..count])
+    is_heard_under(port, heard, due.identifier, identifier) && bytes == &due.bytes[..count]
 }
