@@ -5,6 +5,7 @@ use mathlib.Core.Path.{◌≡◌}
 use mathlib.Core.Bool.{Bool, true, false}
 use borrow.Author.Tests.{eq-eqb, ne_eqb}
 use lib.Dec.{eqb}
+use Rattle.std.specs.Prelude.{Err}
 use Rattle.octets.specs.Read.{word_at}
 use Rattle.octets.specs.Bytes.{word_bytes}
 use Rattle.octets.proofs.Cases.{untrue}
@@ -12,7 +13,6 @@ use Rattle.session_configuration.specs.declared.Configuration.{Configuration}
 use Rattle.sram.specs.Region.{size, base, in_range}
 use Rattle.sram.proofs.Laws.{range_base, range_end}
 use Rattle.session_state.specs.declared.Refusal.{Refusal}
-use Rattle.header.specs.declared.Validated.{Validated}
 use Rattle.header.specs.Reading.{header_read, validated}
 use Rattle.sender_header.specs.Writing.{length_word, header_written, header_meant}
 
@@ -35,7 +35,7 @@ written_reads configuration start vle length h =
     rw (joined start, joined (length_word vle length), vle_read vle length h, length-read vle length h)
 
 pub too_long : (configuration : Configuration) (start : ℕ) (vle : Bool) (length : ℕ) → 0x80000000 ≤ length
-    → validated configuration (header_meant start vle length) ≡ Validated.Refused Refusal.Range
+    → validated configuration (header_meant start vle length) ≡ Err Refusal.Range
 unfolding validated base size
 too_long configuration start vle length h =
     let address = start / 4 * 4 in

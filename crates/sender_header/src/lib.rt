@@ -5,7 +5,7 @@ ghost use Rattle.std.specs.Prelude.{◌≡◌};
 ghost use Rattle.header.specs.Reading.{validated};
 ghost use Rattle.sender_header.specs.Writing.{Written, length_word, header_meant};
 
-use header::Validated;
+use header::Header;
 use session_configuration::Configuration;
 use session_state::Refusal;
 
@@ -23,22 +23,25 @@ fn length_word(vle: bool, length: u32) -> u32
 pub fn write(configuration: Configuration, start: u32, vle: bool, length: u32) -> [u8; 8]
     ensures { Written configuration start vle length result }
 {
-    let first = octets::word_bytes(start);
-    let last = octets::word_bytes(length_word(vle, length));
-    [
-        first[0], first[1], first[2], first[3], last[0], last[1], last[2], last[3],
-    ]
+    let mut bytes = [0; 8];
+    bytes[..4].copy_from_slice(&octets::word_bytes(start));
+    bytes[4..].copy_from_slice(&octets::word_bytes(length_word(vle, length)));
+    bytes
 }
 
 // What becomes of a load with an image of this length: what the head makes of its header, and 4 where the header has no place for the length.
-pub fn judge(configuration: Configuration, start: u32, vle: bool, length: usize) -> Validated
+#[tactic(auto, using(crate::proofs::Laws::too_long))]
+pub fn judge(
+    configuration: Configuration,
+    start: u32,
+    vle: bool,
+    length: usize,
+) -> Result<Header, Refusal>
     ensures { result ≡ validated configuration (header_meant start vle length) }
 {
-    if length < 0x8000_0000 {
-        return header::validate(
-            configuration,
-            write(configuration, start, vle, length as u32),
-        );
+    if length >= 0x8000_0000 {
+        return Err(Refusal::Range);
     }
-    Validated::Refused(Refusal::Range)
+    let bytes = write(configuration, start, vle, length as u32);
+    header::validate(configuration, bytes)
 }
