@@ -1,5 +1,5 @@
 -- What the head says back (01, "What the head says back"; 02, E2).
-use Rattle.std.specs.Prelude.{ℕ, List, Bool, cond, length, replicate}
+use Rattle.std.specs.Prelude.{ℕ, List, Bool, cond, length, replicate, ⊤, Ok, Err, Result as OkOrErr}
 use Rattle.buffers.specs.Write.{over}
 use Rattle.sram.specs.Region.{right_size}
 use Rattle.session_state.specs.declared.Port.{Port}
@@ -12,7 +12,6 @@ use Rattle.session_answers.specs.declared.Answer.{Answer}
 use Rattle.session_answers.specs.declared.Echo.{Echo}
 use Rattle.session_answers.specs.declared.Fault.{Fault}
 use Rattle.session_answers.specs.declared.Outcome.{Outcome}
-use Rattle.session_answers.specs.declared.Prechecked.{Prechecked}
 use Rattle.session_answers.specs.declared.StepResult.{StepResult}
 
 -- "8th password byte in, check not passed"; "header complete, length 0"; "header complete, length not 0, not wholly in SRAM"; a faulty byte
@@ -38,15 +37,15 @@ outcome_number (Outcome.Jumps jump) = 5
 outcome_number (Outcome.Refused fault) = fault_number fault
 
 -- what comes before the session's rules: 7, then 8, then 6, where `formed` says that the item, or the list, is of the right form
-unfoldable pub precheck : Session → List ℕ → Bool → Prechecked
+unfoldable pub precheck : Session → List ℕ → Bool → OkOrErr ⊤ Fault
 precheck session sram formed =
     cond (right_size session.configuration sram)
     (cond (sound session)
     (cond formed
-    Prechecked.Passed
-    (Prechecked.Refused Fault.Form))
-    (Prechecked.Refused Fault.Unsound))
-    (Prechecked.Refused Fault.Size)
+    (Ok tt)
+    (Err Fault.Form))
+    (Err Fault.Unsound))
+    (Err Fault.Size)
 
 -- an echo of bytes under an identifier, which only CAN has
 abbrev pub under_port : Port → ℕ → ℕ

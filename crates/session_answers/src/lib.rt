@@ -8,7 +8,8 @@ ghost use Rattle.session_answers.specs.Answers.{refusal_number, fault_number, ou
 use session_items::Role;
 use session_state::{Jump, Port, Refusal, Session};
 
-// The echo: the first `length` of `bytes`, for CAN under an identifier, which is 0 for serial and where nothing is echoed.
+// The echo: the first `length` of `bytes`, for CAN under an identifier, which is 0 for serial and where nothing is echoed. The bytes are eight with
+// zeroes behind, as they cross the C interface.
 #[derive(Clone, Copy)]
 pub struct Echo {
     pub identifier: u32,
@@ -22,13 +23,6 @@ pub enum Fault {
     Form,
     Size,
     Unsound,
-}
-
-// What comes before the session's rules.
-#[derive(Clone, Copy)]
-pub enum Prechecked {
-    Passed,
-    Refused(Fault),
 }
 
 // What becomes of an item (`outcome_number` of specs/ gives the number).
@@ -55,7 +49,8 @@ pub struct StepResult {
     pub session: Session,
 }
 
-// The number of a refusal.
+// The number of a refusal. It is no `From`: `Refusal` is of `session_state`, and the definition that states the number, `Answers.refusal_number`, is
+// of this crate, where it keeps its name.
 pub fn refusal_number(refusal: Refusal) -> u8
     ensures { result ≡ refusal_number refusal }
 {
@@ -68,26 +63,34 @@ pub fn refusal_number(refusal: Refusal) -> u8
 }
 
 // The number of a refused call.
-fn fault_number(fault: Fault) -> u8
-    ensures { result ≡ fault_number fault }
-{
-    match fault {
-        Fault::Form => 6,
-        Fault::Size => 7,
-        Fault::Unsound => 8,
+impl From<Fault> for u8 {
+    ghost from_gives = { λ fault number. number ≡ fault_number fault };
+
+    fn from(fault: Fault) -> u8
+        ensures { result ≡ fault_number fault }
+    {
+        match fault {
+            Fault::Form => 6,
+            Fault::Size => 7,
+            Fault::Unsound => 8,
+        }
     }
 }
 
 // The number of an outcome.
-pub fn outcome_number(outcome: Outcome) -> u8
-    ensures { result ≡ outcome_number outcome }
-{
-    match outcome {
-        Outcome::Taken => 0,
-        Outcome::Ignored => 1,
-        Outcome::Stops(refusal) => refusal_number(refusal),
-        Outcome::Jumps(_) => 5,
-        Outcome::Refused(fault) => fault_number(fault),
+impl From<Outcome> for u8 {
+    ghost from_gives = { λ outcome number. number ≡ outcome_number outcome };
+
+    fn from(outcome: Outcome) -> u8
+        ensures { result ≡ outcome_number outcome }
+    {
+        match outcome {
+            Outcome::Taken => 0,
+            Outcome::Ignored => 1,
+            Outcome::Stops(refusal) => refusal_number(refusal),
+            Outcome::Jumps(_) => 5,
+            Outcome::Refused(fault) => fault.into(),
+        }
     }
 }
 
@@ -105,22 +108,25 @@ fn under_port(port: Port, identifier: u32) -> u32
 fn echo_under(identifier: u32, bytes: &[u8]) -> Echo
     ensures { result ≡ echo_under identifier (take 8 bytes.now) }
 {
-    let all = buffers::eight_of(bytes);
     Echo {
-        identifier: identifier,
-        length: octets::least(8, bytes.len()) as u8,
-        bytes: all,
+        identifier,
+        length: bytes.len().min(8) as u8,
+        bytes: buffers::eight_of(bytes),
     }
 }
 
-// No echo.
-fn no_echo() -> Echo
-    ensures { result ≡ no_echo }
-{
-    Echo {
-        identifier: 0,
-        length: 0,
-        bytes: [0; 8],
+// No echo. It is not derived, since its clause states `no_echo`, which `must-fail/echo_where_none.edit` tries.
+impl Default for Echo {
+    ghost is_default = { λ echo. echo ≡ no_echo };
+
+    fn default() -> Echo
+        ensures { result ≡ no_echo }
+    {
+        Echo {
+            identifier: 0,
+            length: 0,
+            bytes: [0; 8],
+        }
     }
 }
 
@@ -147,8 +153,8 @@ pub fn without_echo(outcome: Outcome) -> Answer
     ensures { result ≡ without_echo outcome }
 {
     Answer {
-        outcome: outcome,
-        echo: no_echo(),
+        outcome,
+        echo: Echo::default(),
     }
 }
 
@@ -157,26 +163,23 @@ pub fn take_nothing(session: Session, outcome: Outcome) -> StepResult
 {
     StepResult {
         answer: without_echo(outcome),
-        session: session,
+        session,
     }
 }
 
 // What comes before the session's rules: 7, then 8, then 6 for what is handed in where it is not of the right form.
 #[tactic(auto, unfolding(crate::specs::Answers::precheck))]
-pub fn precheck(session: Session, sram: &[u8], formed: bool) -> Prechecked
+pub fn precheck(session: Session, sram: &[u8], formed: bool) -> Result<(), Fault>
     ensures { result ≡ precheck session sram.now formed }
 {
-    let configuration = session.configuration;
-    let whole = sram::is_whole(configuration, sram);
-    let sound = session_state::is_sound(session);
-    if !whole {
-        return Prechecked::Refused(Fault::Size);
+    if !sram::is_whole(session.configuration, sram) {
+        return Err(Fault::Size);
     }
-    if !sound {
-        return Prechecked::Refused(Fault::Unsound);
+    if !session_state::is_sound(session) {
+        return Err(Fault::Unsound);
     }
     if !formed {
-        return Prechecked::Refused(Fault::Form);
+        return Err(Fault::Form);
     }
-    Prechecked::Passed
+    Ok(())
 }
