@@ -72,7 +72,7 @@ fn answer_numbers(answer: Answer) -> [u32; ANSWER_WIDTH]
     let echo = answer.echo;
     let jump = jump_numbers(outcome);
     [
-        wide(session_answers::outcome_number(outcome)),
+        wide(u8::from(outcome)),
         echo.identifier,
         wide(echo.length),
         jump[0],

@@ -66,7 +66,7 @@ fn print_record(out: &mut [u8], used: usize, ordinal: u64, taken: usize, answer:
     let outcome = answer.outcome;
     let echo = answer.echo;
     let bytes = echo.bytes;
-    let number = session_answers::outcome_number(outcome);
+    let number = u8::from(outcome);
     Turn {
         at: taken,
         used: replay_lines::record_line(out, used, ordinal, number, bytes, echo.length as usize),
