@@ -97,6 +97,6 @@ pub fn put_answer(echo: &mut [u8], answer: &mut [u32], given: Answer)
         let bytes = said.bytes;
         let numbers = answer_numbers(given);
         buffers::fill(echo, &bytes[..]);
-        buffers::fill_words(answer, &numbers[..]);
+        buffers::fill(answer, &numbers[..]);
     }
 }

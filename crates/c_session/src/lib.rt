@@ -135,7 +135,7 @@ pub fn put_session(bytes: &mut [u8], numbers: &mut [u32], session: Session)
     if has_places(bytes, numbers) {
         put_bytes(bytes, session);
         let written = session_numbers(session);
-        buffers::fill_words(numbers, &written[..]);
+        buffers::fill(numbers, &written[..]);
     }
 }
 

@@ -19,7 +19,7 @@ returns-then-has_places c =
           rw (
             there,
             c.put_bytes.ensures,
-            c.fill_words.ensures,
+            c.fill.ensures,
             c.session_numbers-written.ensures,
             fill_whole (session_numbers a.session) a.numbers.now (room ∙ sym (session-length a.session)),
           );
