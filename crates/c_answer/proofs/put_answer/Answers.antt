@@ -9,7 +9,7 @@ returns-then-has_places c =
     let a = c.args in
     let eight : length a.given.echo.bytes ≡ 8 = search rules in
     let places : answer_places (as_flat a.echo.now a.answer.now) ≡ true = sym c.has_places.ensures ∙ c.if-has_places.true in
-    rw (c.fill.ensures, c.fill-2.ensures, c.answer_numbers-numbers.ensures) (fills a.given a.echo.now a.answer.now eight places)
+    rw (c.fill.ensures, c.fill-then-has_places.ensures, c.answer_numbers-numbers.ensures) (fills a.given a.echo.now a.answer.now eight places)
 
 pub returns-else-has_places : goal.returns-else-has_places
 unfolding answer_put
