@@ -3,15 +3,15 @@ use Prim.Native.Nat.{ℕ, ◌+◌, ◌≤◌, ◌<◌}
 use native.Mathlib.Omega.{arith}
 use mathlib.Core.Path.{◌≡◌, refl, sym, ap, ◌∙◌}
 use mathlib.Core.List.{List}
-use mathlib.Core.Bool.{Bool, true, false, cond, not, ◌&&◌, and-eq-true_iff, true≢false, false≢true}
+use mathlib.Core.Bool.{Bool, true, false, cond, not, ◌&&◌, and-eq-true_iff, true≢false}
 use borrow.Author.Tests.{ltb-true, leb-true, leb-false}
 use lib.Dec.{leb, ltb, eqb}
 use lib.ListN.{length}
+use Rattle.std.specs.Prelude.{Ok, Err, is_ok}
 use Rattle.session_configuration.specs.declared.Configuration.{Configuration}
 use Rattle.session_state.specs.declared.Port.{Port}
 use Rattle.session_state.specs.declared.Refusal.{Refusal}
 use Rattle.header.specs.declared.Header.{Header}
-use Rattle.header.specs.declared.Validated.{Validated}
 use Rattle.header.specs.Reading.{announces_none, within, fits, validated}
 use Rattle.sender_header.specs.Writing.{header_meant}
 use Rattle.sender_header.proofs.Laws.{too_long}
@@ -24,18 +24,13 @@ few_bytes Port.Can = omega arith
 few_bytes Port.Serial = omega arith
 
 -- what is judged to fit is what fits
-abbrev pub is_fit : Validated → Bool
-is_fit (Validated.Refused refusal) = false
-is_fit (Validated.Fits header) = true
-
-pub judged_fits : (configuration : Configuration) (header : Header) → is_fit (validated configuration header) ≡ fits configuration header
+pub judged_fits : (configuration : Configuration) (header : Header) → is_ok (validated configuration header) ≡ fits configuration header
 unfolding validated
 judged_fits configuration header = either (announces_none header) (within configuration header)
   where
     either
         : (none there : Bool)
-        → is_fit (cond none (Validated.Refused Refusal.Length) (cond there (Validated.Fits header) (Validated.Refused Refusal.Range)))
-        ≡ (not none && there)
+        → is_ok (cond none (Err Refusal.Length) (cond there (Ok header) (Err Refusal.Range))) ≡ (not none && there)
     either true there = refl
     either false true = refl
     either false false = refl
@@ -69,27 +64,22 @@ fit_short configuration start vle length fit = either (leb 0x80000000 length) re
     either : (b : Bool) → leb 0x80000000 length ≡ b → length < 0x80000000
     either true e =
         let long = too_long configuration start vle length (leb-true 0x80000000 length e) in
-        absurd (true≢false (sym fit ∙ sym (judged_fits configuration (header_meant start vle length)) ∙ ap is_fit long))
+        absurd (true≢false (sym fit ∙ sym (judged_fits configuration (header_meant start vle length)) ∙ ap is_ok long))
     either false e = leb-false 0x80000000 length e
 
 -- and what it is judged to announce is that length
-length_in : Validated → ℕ
-length_in (Validated.Refused refusal) = 0
-length_in (Validated.Fits header) = header.length
-
 pub fit_length : (configuration : Configuration) (start : ℕ) (vle : Bool) (length : ℕ) (header : Header)
-    → validated configuration (header_meant start vle length) ≡ Validated.Fits header
+    → validated configuration (header_meant start vle length) ≡ Ok header
     → header.length ≡ length
-unfolding validated length_in
+unfolding validated
 fit_length configuration start vle length header e =
     let announced = header_meant start vle length in
-    sym (ap length_in e)
-    ∙ either (announces_none announced) (within configuration announced) (ap is_fit e)
+    either (announces_none announced) (within configuration announced) e
   where
     either
         : (none there : Bool)
-        → is_fit (cond none (Validated.Refused Refusal.Length) (cond there (Validated.Fits (header_meant start vle length)) (Validated.Refused Refusal.Range))) ≡ true
-        → length_in (cond none (Validated.Refused Refusal.Length) (cond there (Validated.Fits (header_meant start vle length)) (Validated.Refused Refusal.Range))) ≡ length
-    either true there f = absurd (false≢true f)
-    either false true f = refl
-    either false false f = absurd (false≢true f)
+        → cond none (Err Refusal.Length) (cond there (Ok (header_meant start vle length)) (Err Refusal.Range)) ≡ Ok header
+        → header.length ≡ length
+    either true there f = cc
+    either false true f = cc
+    either false false f = cc
