@@ -1,7 +1,7 @@
 // Items written over the first places of a slice, and those from a place on moved to its start.
 #![tactic(auto)]
 
-ghost use Rattle.std.specs.Prelude.{◌≡◌, ◌-◌, ◌≤◌, length, drop};
+ghost use Rattle.std.specs.Prelude.{◌≡◌, ◌-◌, length, drop};
 ghost use Rattle.octets.specs.Read.{first_eight};
 ghost use Rattle.buffers.specs.Write.{over, filled};
 

@@ -2,45 +2,31 @@
 // numbers, which answer for all numbers.
 #![tactic(auto)]
 
-ghost use Rattle.std.specs.Prelude.{◌≡◌, ◌+◌, ◌-◌, ◌*◌, min};
+ghost use Rattle.std.specs.Prelude.{◌≡◌, ◌-◌, min};
 ghost use Rattle.octets.specs.Read.{byte_at, half_at, word_at, first_eight};
 ghost use Rattle.octets.specs.Bytes.{word_bytes};
+
+use std::array;
 
 // The difference of two numbers, or 0 where the second is larger.
 pub fn difference(a: usize, b: usize) -> usize
     ensures { result ≡ a - b }
 {
-    if b <= a {
-        return a - b;
-    }
-    0
+    a.saturating_sub(b)
 }
 
 // The smaller of two numbers.
 pub fn least(a: usize, b: usize) -> usize
     ensures { result ≡ min a b }
 {
-    if b < a {
-        return b;
-    }
-    a
+    a.min(b)
 }
 
 // The byte at a place, or 0 past the end.
 pub fn byte(s: &[u8], at: usize) -> u8
     ensures { result ≡ byte_at s.now at }
 {
-    if s.len() <= at {
-        return 0;
-    }
-    s[at]
-}
-
-// The number that two bytes are, the higher first.
-fn joined(high: u8, low: u8) -> u16
-    ensures { result ≡ high * 256 + low }
-{
-    (high as u16) * 256 + (low as u16)
+    s.get(at).copied().unwrap_or(0)
 }
 
 // The half word at a place.
@@ -48,11 +34,10 @@ pub fn half(s: &[u8], at: usize) -> u16
     ensures { result ≡ half_at s.now at }
 {
     if at < s.len() {
-        let high = byte(s, at);
-        let low = byte(s, at + 1);
-        return joined(high, low);
+        u16::from_be_bytes([byte(s, at), byte(s, at + 1)])
+    } else {
+        0
     }
-    0
 }
 
 // The word at a place.
@@ -60,37 +45,27 @@ pub fn word(s: &[u8], at: usize) -> u32
     ensures { result ≡ word_at s.now at }
 {
     if at < s.len() {
-        let high = half(s, at);
-        let low = half(s, at + 2);
-        return (high as u32) * 65536 + (low as u32);
+        u32::from_be_bytes([
+            byte(s, at),
+            byte(s, at + 1),
+            byte(s, at + 2),
+            byte(s, at + 3),
+        ])
+    } else {
+        0
     }
-    0
 }
 
 // The first eight bytes.
 pub fn first_eight(s: &[u8]) -> [u8; 8]
     ensures { result ≡ first_eight s.now }
 {
-    [
-        byte(s, 0),
-        byte(s, 1),
-        byte(s, 2),
-        byte(s, 3),
-        byte(s, 4),
-        byte(s, 5),
-        byte(s, 6),
-        byte(s, 7),
-    ]
+    array::from_fn(|i| byte(s, i))
 }
 
 // The four bytes of a number of 32 bits.
 pub fn word_bytes(word: u32) -> [u8; 4]
     ensures { result ≡ word_bytes word }
 {
-    [
-        (word / 65536 / 256) as u8,
-        (word / 65536 % 256) as u8,
-        (word % 65536 / 256) as u8,
-        (word % 65536 % 256) as u8,
-    ]
+    word.to_be_bytes()
 }
