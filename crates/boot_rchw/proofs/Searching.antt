@@ -4,6 +4,7 @@ use native.Mathlib.Numerals.{add-one}
 use mathlib.Core.Path.{◌≡◌}
 use mathlib.Core.List.{List}
 use mathlib.Core.Bool.{true, false}
+use Rattle.std.specs.Prelude.{Some, None}
 use lib.ListN.{length, get_or, drop, drop_of_length-le}
 use lib.Seq.{drop-cons}
 use Rattle.boot_rchw.specs.Places.{good_place, searched}
@@ -12,7 +13,7 @@ module _ (memory places : List ℕ) (i : ℕ) where
   pub search_found
       : i < length places
       → good_place memory (get_or places i 0) ≡ true
-      → searched memory i (drop i places) ≡ record { found = true; place = get_or places i 0; examined = i + 1 }
+      → searched memory i (drop i places) ≡ record { found = Some (get_or places i 0); examined = i + 1 }
   unfolding searched
   search_found h e = rw (drop-cons places i 0, e)
 
@@ -23,6 +24,6 @@ module _ (memory places : List ℕ) (i : ℕ) where
   unfolding searched
   search_on h e = rw (drop-cons places i 0, e, add-one)
 
-  pub search_none : length places ≤ i → searched memory i (drop i places) ≡ record { found = false; place = 0; examined = i }
+  pub search_none : length places ≤ i → searched memory i (drop i places) ≡ record { found = None; examined = i }
   unfolding searched
   search_none h = rw drop_of_length-le

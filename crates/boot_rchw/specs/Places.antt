@@ -1,5 +1,5 @@
 -- The places where a reset configuration half word is searched for (01, "Choosing how to boot", Internal and External; 000, 16.3.2.1.1 and 16.3.2.2.5).
-use Rattle.std.specs.Prelude.{ℕ, ◌+◌, ◌/◌, ◌%◌, List, [], ◌∷◌, Bool, true, false, cond, ◌&&◌, length, leb, eqb}
+use Rattle.std.specs.Prelude.{ℕ, ◌+◌, ◌/◌, ◌%◌, List, [], ◌∷◌, Bool, cond, ◌&&◌, Some, None, length, leb, eqb}
 use Rattle.octets.specs.Read.{byte_at}
 use Rattle.boot_rchw.specs.declared.Search.{Search}
 
@@ -18,10 +18,10 @@ good_place memory place = leb (place + 8) (length memory) && eqb (byte_at memory
 -- "The walk ends at the first good place; the answer carries that place and the number of places looked at, which equals the place's
 -- rank from 1, or 6 if none is good." The search of the places that are left, after as many as `examined`.
 unfoldable pub searched : List ℕ → ℕ → List ℕ → Search
-searched memory examined [] = record { found = false; place = 0; examined = examined }
+searched memory examined [] = record { found = None; examined = examined }
 searched memory examined (place ∷ places) =
     cond (good_place memory place)
-    (record { found = true; place = place; examined = examined + 1 })
+    (record { found = Some place; examined = examined + 1 })
     (searched memory (examined + 1) places)
 
 -- "In the first byte of the half word, 0x04 is the watchdog enable and 0x02 the 16-bit external bus. Its other bits change

@@ -1,14 +1,13 @@
 // The places where a reset configuration half word is searched for (01, "Choosing how to boot"; 000, 16.3.2.1.1 and 16.3.2.2.5).
 #![tactic(auto)]
 
-ghost use Rattle.std.specs.Prelude.{◌≡◌};
+ghost use Rattle.std.specs.Prelude.{◌≡◌, ◌≤◌, length};
 ghost use Rattle.boot_rchw.specs.Places.{flash_places, external_places, good_place, searched};
 
-// What the search of the places found, and how many it examined.
+// The first good place, where there is one, and how many places the search examined.
 #[derive(Clone, Copy)]
 pub struct Search {
-    pub found: bool,
-    pub place: u32,
+    pub found: Option<u32>,
     pub examined: u8,
 }
 
@@ -23,40 +22,40 @@ fn is_good_place(memory: &[u8], place: u32) -> bool
     (at + 8 <= memory.len()) & (octets::byte(memory, at + 1) == 0x5A)
 }
 
+// The search of places, one after the other, up to the first good one.
+#[tactic(auto, using(crate::proofs::Searching::search_found, crate::proofs::Searching::search_on, crate::proofs::Searching::search_none))]
+fn look_in_turn(memory: &[u8], places: &[u32]) -> Search
+    requires { length places.now ≤ 6 }
+    ensures { result ≡ searched memory.now 0 places.now }
+{
+    let mut examined = 0;
+    for &place in places {
+        examined += 1;
+        if is_good_place(memory, place) {
+            return Search {
+                found: Some(place),
+                examined,
+            };
+        }
+    }
+    Search {
+        found: None,
+        examined,
+    }
+}
+
 // The first good place of the flash.
+#[tactic(auto, unfolding(crate::specs::Places::flash_places))]
 pub fn first_good(flash: &[u8]) -> Search
     ensures { result ≡ searched flash.now 0 flash_places }
 {
-    let mut i: u8 = 0;
-    let search = loop {
-        if 6 <= i {
-            break Search {
-                found: false,
-                place: 0,
-                examined: i,
-            };
-        }
-        let place = PLACES[i as usize];
-        if is_good_place(flash, place) {
-            break Search {
-                found: true,
-                place: place,
-                examined: i + 1,
-            };
-        }
-        i = i + 1;
-    };
-    search
+    look_in_turn(flash, &PLACES)
 }
 
 // The search of the one place of the external head.
-#[tactic(auto, unfolding(crate::specs::Places::searched, crate::specs::Places::external_places))]
+#[tactic(auto, unfolding(crate::specs::Places::external_places))]
 pub fn examine_external(external: &[u8]) -> Search
     ensures { result ≡ searched external.now 0 external_places }
 {
-    Search {
-        found: is_good_place(external, 0),
-        place: 0,
-        examined: 1,
-    }
+    look_in_turn(external, &[0])
 }
