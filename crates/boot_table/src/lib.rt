@@ -25,16 +25,16 @@ pub const PUBLIC: [u8; 8] = [0xFE, 0xED, 0xFA, 0xCE, 0xCA, 0xFE, 0xBE, 0xEF];
 
 // What the column BOOTCFG of the table says.
 #[tactic(auto, unfolding(crate::specs::Table::asked_by))]
-pub fn asked_by(bootcfg: u32) -> Asked
-    ensures { result ≡ asked_by bootcfg }
-{
-    if bootcfg == 0 {
-        return Asked::Internal;
+impl From<u32> for Asked {
+    ghost from_gives = { λ bootcfg asked. asked ≡ asked_by bootcfg };
+
+    fn from(bootcfg: u32) -> Asked {
+        match bootcfg {
+            0 => Asked::Internal,
+            1 => Asked::Serial,
+            _ => Asked::External,
+        }
     }
-    if bootcfg == 1 {
-        return Asked::Serial;
-    }
-    Asked::External
 }
 
 // Whether the control that matters is 0x55AA.
@@ -43,9 +43,8 @@ fn has_55aa(asked: Asked, shadow: &[u8]) -> bool
     ensures { result ≡ control_55aa asked shadow.now }
 {
     match asked {
-        Asked::Internal => octets::half(shadow, 8) == 0x55AA,
+        Asked::Internal | Asked::External => octets::half(shadow, 8) == 0x55AA,
         Asked::Serial => octets::half(shadow, 10) == 0x55AA,
-        Asked::External => octets::half(shadow, 8) == 0x55AA,
     }
 }
 
@@ -54,50 +53,22 @@ fn has_55aa(asked: Asked, shadow: &[u8]) -> bool
 fn row_of(asked: Asked, is_55aa: bool, shadow: &[u8]) -> Row
     ensures { result ≡ row_of asked is_55aa shadow.now }
 {
-    let flash_password = octets::first_eight(shadow);
-    match asked {
-        Asked::Internal => {
-            if is_55aa {
-                return Row {
-                    flash: true,
-                    nexus: true,
-                    password: PUBLIC,
-                };
-            }
-            Row {
-                flash: true,
-                nexus: false,
-                password: flash_password,
-            }
-        }
-        Asked::Serial => {
-            if is_55aa {
-                return Row {
-                    flash: true,
-                    nexus: false,
-                    password: flash_password,
-                };
-            }
-            Row {
-                flash: false,
-                nexus: true,
-                password: PUBLIC,
-            }
-        }
-        Asked::External => {
-            if is_55aa {
-                return Row {
-                    flash: true,
-                    nexus: true,
-                    password: PUBLIC,
-                };
-            }
-            Row {
-                flash: false,
-                nexus: true,
-                password: PUBLIC,
-            }
-        }
+    match (asked, is_55aa) {
+        (Asked::Internal, false) | (Asked::Serial, true) => Row {
+            flash: true,
+            nexus: false,
+            password: octets::first_eight(shadow),
+        },
+        (Asked::Internal | Asked::External, true) => Row {
+            flash: true,
+            nexus: true,
+            password: PUBLIC,
+        },
+        (Asked::Serial | Asked::External, false) => Row {
+            flash: false,
+            nexus: true,
+            password: PUBLIC,
+        },
     }
 }
 
