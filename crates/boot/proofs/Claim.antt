@@ -1,9 +1,10 @@
 -- The claim of `boot::choose` follows from its equation.
 use Prim.Native.Nat.{ℕ, zero, suc, ◌+◌, ◌-◌, ◌≤◌, ◌<◌}
 use native.Mathlib.Omega.{arith}
-use mathlib.Core.Path.{◌≡◌, refl, ap, sym, subst, ◌∙◌}
+use mathlib.Core.Path.{◌≡◌, refl, ap, ◌∙◌}
 use mathlib.Core.List.{List, [], ◌∷◌}
 use mathlib.Core.Bool.{Bool, true, false, cond}
+use Rattle.std.specs.Prelude.{Option, Some, None}
 use lib.ListN.{length, get_or}
 use Rattle.boot_table.specs.declared.Asked.{Asked}
 use Rattle.boot_table.specs.declared.Row.{Row}
@@ -17,15 +18,15 @@ use Rattle.boot.specs.Choosing.{allowed, refusal, settled, chosen, boot_choice, 
 use Rattle.boot.specs.Claim.{ChoiceClaim, Ranked}
 
 -- What the search of any places found, after n others: the first good place, or that none is good.
-abbrev Walked : List ℕ → List ℕ → ℕ → (found : Bool) → (place examined : ℕ) → Type 0
-Walked memory places n true place examined =
+abbrev Walked : List ℕ → List ℕ → ℕ → (found : Option ℕ) → (examined : ℕ) → Type 0
+Walked memory places n (Some place) examined =
     (k : ℕ)
     × (examined ≡ n + k + 1)
     × (k < length places)
     × (place ≡ get_or places k 0)
     × (good_place memory place ≡ true)
     × ((i : ℕ) → i < k → good_place memory (get_or places i 0) ≡ false)
-Walked memory places n false place examined =
+Walked memory places n None examined =
     (examined ≡ n + length places) × ((i : ℕ) → i < length places → good_place memory (get_or places i 0) ≡ false)
 
 -- one bad place in front
@@ -38,26 +39,26 @@ also memory p places k e f zero h = e
 also memory p places k e f (suc i) h = f i (omega arith)
 
 more
-    : (memory : List ℕ) (p : ℕ) (places : List ℕ) (n : ℕ) (found : Bool) (place examined : ℕ)
+    : (memory : List ℕ) (p : ℕ) (places : List ℕ) (n : ℕ) (found : Option ℕ) (examined : ℕ)
     → good_place memory p ≡ false
-    → Walked memory places (n + 1) found place examined
-    → Walked memory (p ∷ places) n found place examined
-more memory p places n true place examined e w =
+    → Walked memory places (n + 1) found examined
+    → Walked memory (p ∷ places) n found examined
+more memory p places n (Some place) examined e w =
     (suc w.0, omega arith, omega arith, w.3, w.4, also memory p places w.0 e w.5)
-more memory p places n false place examined e w =
+more memory p places n None examined e w =
     (omega arith, also memory p places (length places) e w.1)
 
 -- what the search found, as one value
 abbrev Finds : List ℕ → List ℕ → ℕ → Search → Type 0
-Finds memory places n search = Walked memory places n search.found search.place search.examined
+Finds memory places n search = Walked memory places n search.found search.examined
 
 step
     : (memory : List ℕ) (p : ℕ) (places : List ℕ) (n : ℕ) (rest : Search) (test : Bool)
     → good_place memory p ≡ test
     → Finds memory places (n + 1) rest
-    → Finds memory (p ∷ places) n (cond test (record { found = true; place = p; examined = n + 1 }) rest)
+    → Finds memory (p ∷ places) n (cond test (record { found = Some p; examined = n + 1 }) rest)
 step memory p places n rest true e w = (0, omega arith, omega arith, refl, e, λ i h. absurd (omega arith))
-step memory p places n rest false e w = more memory p places n rest.found rest.place rest.examined e w
+step memory p places n rest false e w = more memory p places n rest.found rest.examined e w
 
 search_finds : (memory : List ℕ) (n : ℕ) (places : List ℕ) → Finds memory places n (searched memory n places)
 unfolding searched
@@ -65,19 +66,18 @@ search_finds memory n [] = (omega arith, λ i h. absurd (omega arith))
 search_finds memory n (p ∷ places) =
     step memory p places n (searched memory (n + 1) places) (good_place memory p) refl (search_finds memory (n + 1) places)
 
--- The claim's other fields, of a choice with number n.
-record Answered (flash : List ℕ) (n : ℕ) (c : Choice) : Type 0 where
-  number : choice_number c.answer ≡ n
-  count : Ranked flash c.answer
-  at_most_six : examined_of c.answer ≤ 6
+-- The claim's other fields, of an answer with number n.
+record Answered (flash : List ℕ) (n : ℕ) (c : Option Choice) : Type 0 where
+  number : choice_number c ≡ n
+  count : Ranked flash c
+  at_most_six : examined_of c ≤ 6
 
 internal_ranked
-    : (flash : List ℕ) (row : Row) (found : Bool) (place examined : ℕ)
-    → Walked flash flash_places 0 found place examined
-    → Answered flash 0
-    (settled Mode.Internal Entered.FromInternal flash (record { found = found; place = place; examined = examined }) row)
+    : (flash : List ℕ) (row : Row) (found : Option ℕ) (examined : ℕ)
+    → Walked flash flash_places 0 found examined
+    → Answered flash 0 (Some (settled Mode.Internal Entered.FromInternal flash (record { found = found; examined = examined }) row))
 unfolding settled flash_places
-internal_ranked flash row true place examined w =
+internal_ranked flash row (Some place) examined w =
     let rank : w.0 ≡ examined - 1 = omega arith in
     record {
       number = refl;
@@ -90,55 +90,39 @@ internal_ranked flash row true place examined w =
           };
       at_most_six = omega arith;
     }
-internal_ranked flash row false place examined w = record { number = refl; count = (w.0, w.1); at_most_six = omega arith }
+internal_ranked flash row None examined w = record { number = refl; count = (w.0, w.1); at_most_six = omega arith }
 
 external_ranked
-    : (flash memory : List ℕ) (row : Row) (found : Bool) (place examined : ℕ)
-    → Walked memory external_places 0 found place examined
-    → Answered flash 0
-    (settled Mode.External Entered.FromExternal memory (record { found = found; place = place; examined = examined }) row)
+    : (flash memory : List ℕ) (row : Row) (found : Option ℕ) (examined : ℕ)
+    → Walked memory external_places 0 found examined
+    → Answered flash 0 (Some (settled Mode.External Entered.FromExternal memory (record { found = found; examined = examined }) row))
 unfolding settled external_places
-external_ranked flash memory row true place examined w =
+external_ranked flash memory row (Some place) examined w =
     record { number = refl; count = omega arith; at_most_six = omega arith }
-external_ranked flash memory row false place examined w =
+external_ranked flash memory row None examined w =
     record { number = refl; count = w.0; at_most_six = omega arith }
 
-chosen_answers : (asked : Asked) (flash shadow memory : List ℕ) → Answered flash 0 (chosen asked flash shadow memory)
+chosen_answers : (asked : Asked) (flash shadow memory : List ℕ) → Answered flash 0 (Some (chosen asked flash shadow memory))
 unfolding chosen
-chosen_answers Asked.Internal flash shadow memory = internal_ranked flash (row_for Asked.Internal shadow) _ _ _ (search_finds flash 0 flash_places)
+chosen_answers Asked.Internal flash shadow memory = internal_ranked flash (row_for Asked.Internal shadow) _ _ (search_finds flash 0 flash_places)
 chosen_answers Asked.External flash shadow memory =
-    external_ranked flash memory (row_for Asked.External shadow) _ _ _ (search_finds memory 0 external_places)
+    external_ranked flash memory (row_for Asked.External shadow) _ _ (search_finds memory 0 external_places)
 chosen_answers Asked.Serial flash shadow memory = record { number = refl; count = refl; at_most_six = omega arith }
 
--- the choice that the test of the sizes picks
-picked : (flash : List ℕ) (test : Bool) (c : Choice) → Answered flash 0 c → Answered flash (cond test 0 9) (cond test c refusal)
+-- the answer that the test of the sizes picks
+picked : (flash : List ℕ) (test : Bool) (c : Option Choice) → Answered flash 0 c → Answered flash (cond test 0 9) (cond test c refusal)
 picked flash true c a = a
 picked flash false c a = record { number = refl; count = tt; at_most_six = omega arith }
 
 pub claimed
-    : (bootcfg : ℕ) (flash shadow external : List ℕ) {r : Choice}
-    → r ≡ boot_choice bootcfg flash shadow external
+    : (bootcfg : ℕ) (flash shadow external : List ℕ) (r : Option Choice) (test : Bool)
+    → test ≡ allowed bootcfg flash shadow external
+    → r ≡ cond test (Some (chosen (asked_by bootcfg) flash shadow external)) refusal
     → ChoiceClaim bootcfg flash shadow external r
 unfolding boot_choice
-claimed bootcfg flash shadow external {r} e =
-    let c = chosen (asked_by bootcfg) flash shadow external in
+claimed bootcfg flash shadow external r test t e =
+    let c : Option Choice = Some (chosen (asked_by bootcfg) flash shadow external) in
     let p = picked flash (allowed bootcfg flash shadow external) c (chosen_answers (asked_by bootcfg) flash shadow external) in
-    subst (λ (x : Choice). ChoiceClaim bootcfg flash shadow external x) (sym e)
+    let equation : r ≡ boot_choice bootcfg flash shadow external = rw (e, t) in
+    rw equation
     (record { equation = refl; number = p.number; count = p.count; at_most_six = p.at_most_six })
-
--- with sizes allowed, and not
-pub claimed_allowed
-    : (bootcfg : ℕ) (flash shadow external : List ℕ) {r : Choice}
-    → allowed bootcfg flash shadow external ≡ true
-    → r ≡ chosen (asked_by bootcfg) flash shadow external
-    → ChoiceClaim bootcfg flash shadow external r
-unfolding boot_choice
-claimed_allowed bootcfg flash shadow external sized e = claimed bootcfg flash shadow external (rw (e, sized))
-
-pub claimed_refused
-    : (bootcfg : ℕ) (flash shadow external : List ℕ) {r : Choice}
-    → allowed bootcfg flash shadow external ≡ false
-    → r ≡ refusal
-    → ChoiceClaim bootcfg flash shadow external r
-unfolding boot_choice
-claimed_refused bootcfg flash shadow external sized e = claimed bootcfg flash shadow external (rw (e, sized))

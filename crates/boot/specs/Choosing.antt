@@ -1,5 +1,5 @@
 -- The boot choice (01, "Choosing how to boot"; 000, 16.3.2).
-use Rattle.std.specs.Prelude.{ℕ, ◌+◌, List, Bool, false, cond, ◌&&◌, length, replicate, leb, eqb}
+use Rattle.std.specs.Prelude.{ℕ, ◌+◌, List, Bool, false, Option, Some, None, cond, ◌&&◌, length, leb, eqb}
 use Rattle.octets.specs.Read.{word_at}
 use Rattle.boot_table.specs.declared.Asked.{Asked}
 use Rattle.boot_table.specs.declared.Row.{Row}
@@ -8,7 +8,6 @@ use Rattle.boot_rchw.specs.declared.Search.{Search}
 use Rattle.boot_rchw.specs.Places.{flash_places, external_places, searched, watchdog_at, bus_16_at}
 use Rattle.session_configuration.specs.declared.Entered.{Entered}
 use Rattle.boot.specs.declared.Mode.{Mode}
-use Rattle.boot.specs.declared.Answer.{Answer}
 use Rattle.boot.specs.declared.Choice.{Choice}
 
 -- "BOOTCFG (0 to 3); the flash from address 0 (at most 2,097,152 bytes, any shorter length too); 12 shadow bytes ..; the first 8 bytes
@@ -18,25 +17,24 @@ allowed bootcfg flash shadow external =
     leb bootcfg 3 && leb (length flash) 2097152 && eqb (length shadow) 12 && eqb (length external) 8
 
 -- number 9, "number only"
-abbrev pub refusal : Choice
-refusal = record { answer = Answer.Refused; password = replicate 8 0 }
+abbrev pub refusal : Option Choice
+refusal = None
 
 -- from a good place: "the answer carries that place"; "The jump address is the word at place + 4."
-abbrev pub boot_from : Mode → List ℕ → Search → Row → Choice
-boot_from mode memory search row =
+abbrev pub boot_from : Mode → List ℕ → (place examined : ℕ) → Row → Choice
+boot_from mode memory place examined row =
     record {
-      answer =
-          Answer.Boots
-          (record {
+      boot =
+          record {
             mode = mode;
-            place = search.place;
-            examined = search.examined;
-            jump = word_at memory (search.place + 4);
-            watchdog = watchdog_at memory search.place;
-            bus16 = bus_16_at memory search.place;
+            place = place;
+            examined = examined;
+            jump = word_at memory (place + 4);
+            watchdog = watchdog_at memory place;
+            bus16 = bus_16_at memory place;
             flash = row.flash;
             nexus = row.nexus;
-          });
+          };
       password = row.password;
     }
 
@@ -44,9 +42,8 @@ boot_from mode memory search row =
 abbrev pub serial_boot : Entered → ℕ → Row → Choice
 serial_boot entered examined row =
     record {
-      answer =
-          Answer.Boots
-          (record {
+      boot =
+          record {
             mode = Mode.Serial entered;
             place = 0;
             examined = examined;
@@ -55,14 +52,17 @@ serial_boot entered examined row =
             bus16 = false;
             flash = row.flash;
             nexus = row.nexus;
-          });
+          };
       password = row.password;
     }
 
 -- Internal: "With no good place: serial."; External: "bad means serial."
 unfoldable pub settled : Mode → Entered → List ℕ → Search → Row → Choice
 settled mode entered memory search row =
-    cond search.found (boot_from mode memory search row) (serial_boot entered search.examined row)
+    elim search.found [
+      | Some place ↦ boot_from mode memory place search.examined row
+      | None ↦ serial_boot entered search.examined row
+    ]
 
 -- Internal, External, and "BOOTCFG 1: serial, count 0"; how serial was entered decides its MMU rows (000, 16.3.2.3.1)
 unfoldable pub chosen : Asked → List ℕ → List ℕ → List ℕ → Choice
@@ -73,16 +73,16 @@ chosen Asked.External flash shadow external =
 chosen Asked.Serial flash shadow external = serial_boot Entered.Directly 0 (row_for Asked.Serial shadow)
 
 -- the answer of the call, for every input
-unfoldable pub boot_choice : ℕ → List ℕ → List ℕ → List ℕ → Choice
+unfoldable pub boot_choice : ℕ → List ℕ → List ℕ → List ℕ → Option Choice
 boot_choice bootcfg flash shadow external =
-    cond (allowed bootcfg flash shadow external) (chosen (asked_by bootcfg) flash shadow external) refusal
+    cond (allowed bootcfg flash shadow external) (Some (chosen (asked_by bootcfg) flash shadow external)) refusal
 
 -- the numbers of the answers (01, "What the head says back")
-abbrev pub choice_number : Answer → ℕ
-choice_number Answer.Refused = 9
-choice_number (Answer.Boots boot) = 0
+abbrev pub choice_number : Option Choice → ℕ
+choice_number None = 9
+choice_number (Some choice) = 0
 
 -- the number of places examined, 0 where the call was refused
-abbrev pub examined_of : Answer → ℕ
-examined_of Answer.Refused = 0
-examined_of (Answer.Boots boot) = boot.examined
+abbrev pub examined_of : Option Choice → ℕ
+examined_of None = 0
+examined_of (Some choice) = choice.boot.examined

@@ -1,8 +1,7 @@
 -- The rank rule, stated apart from the search, and what `boot::choose` promises.
-use Rattle.std.specs.Prelude.{ℕ, ◌-◌, ◌≤◌, ◌<◌, ◌≡◌, List, true, false, cond, get_or}
+use Rattle.std.specs.Prelude.{ℕ, ◌-◌, ◌≤◌, ◌<◌, ◌≡◌, List, true, false, Option, Some, None, cond, get_or}
 use Rattle.boot_rchw.specs.Places.{flash_places, good_place}
 use Rattle.session_configuration.specs.declared.Entered.{Entered}
-use Rattle.boot.specs.declared.Answer.{Answer}
 use Rattle.boot.specs.declared.Boot.{Boot}
 use Rattle.boot.specs.declared.Choice.{Choice}
 use Rattle.boot.specs.declared.Mode.{Mode}
@@ -27,16 +26,16 @@ Counted Mode.External flash boot = boot.examined ≡ 1
 Counted (Mode.Serial Entered.FromExternal) flash boot = boot.examined ≡ 1
 Counted (Mode.Serial Entered.Directly) flash boot = boot.examined ≡ 0
 
-abbrev pub Ranked : List ℕ → Answer → Type 0
-Ranked flash Answer.Refused = Unit {0}
-Ranked flash (Answer.Boots boot) = Counted boot.mode flash boot
+abbrev pub Ranked : List ℕ → Option Choice → Type 0
+Ranked flash None = Unit {0}
+Ranked flash (Some choice) = Counted choice.boot.mode flash choice.boot
 
 -- what `boot::choose` promises of its result r
-pub record ChoiceClaim (bootcfg : ℕ) (flash shadow external : List ℕ) (r : Choice) : Type 0 where
+pub record ChoiceClaim (bootcfg : ℕ) (flash shadow external : List ℕ) (r : Option Choice) : Type 0 where
   pub equation : r ≡ boot_choice bootcfg flash shadow external
   -- number 9 exactly for "BOOTCFG, flash, shadow or external head of a size not allowed"
-  pub number : choice_number r.answer ≡ cond (allowed bootcfg flash shadow external) 0 9
+  pub number : choice_number r ≡ cond (allowed bootcfg flash shadow external) 0 9
   -- the rank rule
-  pub count : Ranked flash r.answer
+  pub count : Ranked flash r
   -- "No more than 6 are ever looked at."
-  pub at_most_six : examined_of r.answer ≤ 6
+  pub at_most_six : examined_of r ≤ 6

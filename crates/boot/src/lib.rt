@@ -3,6 +3,7 @@
 #![tactic(auto)]
 
 ghost use Rattle.std.specs.Prelude.{◌≡◌};
+ghost use Rattle.boot_table.specs.Table.{asked_by};
 ghost use Rattle.boot.specs.Choosing.{allowed, boot_from, serial_boot, settled, chosen};
 ghost use Rattle.boot.specs.Claim.{ChoiceClaim};
 
@@ -31,69 +32,66 @@ pub struct Boot {
     pub nexus: bool,
 }
 
-// The answer: number 9, or number 0 with the boot (`choice_number` of specs/).
-#[derive(Clone, Copy)]
-pub enum Answer {
-    Refused,
-    Boots(Boot),
-}
-
-// The answer with the password selected, which is zeroes where the call was refused.
+// The boot, and the password selected.
 #[derive(Clone, Copy)]
 pub struct Choice {
-    pub answer: Answer,
+    pub boot: Boot,
     pub password: [u8; 8],
 }
 
-// Whether the sizes of what is handed in are allowed.
-fn is_allowed(bootcfg: u32, flash: &[u8], shadow: &[u8], external: &[u8]) -> bool
-    ensures { result ≡ allowed bootcfg flash.now shadow.now external.now }
-{
-    (bootcfg <= 3) & (flash.len() <= 2097152) & (shadow.len() == 12) & (external.len() == 8)
+// What the choice is made from: BOOTCFG, the flash, the shadow row and the first bytes of external memory.
+#[derive(Clone, Copy)]
+pub struct Inputs<'a> {
+    pub bootcfg: u32,
+    pub flash: &'a [u8],
+    pub shadow: &'a [u8],
+    pub external: &'a [u8],
 }
 
 // The choice of a serial boot.
 fn serial_boot(entered: Entered, examined: u8, row: Row) -> Choice
     ensures { result ≡ serial_boot entered examined row }
 {
+    let Row {
+        flash,
+        nexus,
+        password,
+    } = row;
     let boot = Boot {
         mode: Mode::Serial(entered),
         place: 0,
-        examined: examined,
+        examined,
         jump: 0,
         watchdog: false,
         bus16: false,
-        flash: row.flash,
-        nexus: row.nexus,
+        flash,
+        nexus,
     };
-    let password = row.password;
-    Choice {
-        answer: Answer::Boots(boot),
-        password: password,
-    }
+    Choice { boot, password }
 }
 
 // The choice of a boot from a good place.
-fn boot_from(mode: Mode, memory: &[u8], search: Search, row: Row) -> Choice
-    ensures { result ≡ boot_from mode memory.now search row }
+fn boot_from(mode: Mode, memory: &[u8], place: u32, examined: u8, row: Row) -> Choice
+    ensures { result ≡ boot_from mode memory.now place examined row }
 {
-    let at = search.place as usize;
+    let Row {
+        flash,
+        nexus,
+        password,
+    } = row;
+    let at = place as usize;
     let first = octets::byte(memory, at);
     let boot = Boot {
-        mode: mode,
-        place: search.place,
-        examined: search.examined,
+        mode,
+        place,
+        examined,
         jump: octets::word(memory, at + 4),
         watchdog: first / 4 % 2 == 1,
         bus16: first / 2 % 2 == 1,
-        flash: row.flash,
-        nexus: row.nexus,
+        flash,
+        nexus,
     };
-    let password = row.password;
-    Choice {
-        answer: Answer::Boots(boot),
-        password: password,
-    }
+    Choice { boot, password }
 }
 
 // The choice after a search: a boot from the place found, or serial boot.
@@ -101,47 +99,59 @@ fn boot_from(mode: Mode, memory: &[u8], search: Search, row: Row) -> Choice
 fn settle(mode: Mode, entered: Entered, memory: &[u8], search: Search, row: Row) -> Choice
     ensures { result ≡ settled mode entered memory.now search row }
 {
-    if search.found {
-        return boot_from(mode, memory, search, row);
-    }
-    serial_boot(entered, search.examined, row)
-}
-
-// How the head boots, once the sizes are allowed.
-#[tactic(auto, unfolding(crate::specs::Choosing::chosen))]
-fn chosen_for(asked: Asked, flash: &[u8], shadow: &[u8], external: &[u8]) -> Choice
-    ensures { result ≡ chosen asked flash.now shadow.now external.now }
-{
-    let row = boot_table::row_for(asked, shadow);
-    match asked {
-        Asked::Internal => settle(
-            Mode::Internal,
-            Entered::FromInternal,
-            flash,
-            boot_rchw::first_good(flash),
-            row,
-        ),
-        Asked::Serial => serial_boot(Entered::Directly, 0, row),
-        Asked::External => settle(
-            Mode::External,
-            Entered::FromExternal,
-            external,
-            boot_rchw::examine_external(external),
-            row,
-        ),
+    match search.found {
+        Some(place) => boot_from(mode, memory, place, search.examined, row),
+        None => serial_boot(entered, search.examined, row),
     }
 }
 
-// The boot choice, for every input.
-#[tactic(auto, using(crate::proofs::Claim::claimed_refused))]
-pub fn choose(bootcfg: u32, flash: &[u8], shadow: &[u8], external: &[u8]) -> Choice
-    ensures { ChoiceClaim bootcfg flash.now shadow.now external.now result }
-{
-    if is_allowed(bootcfg, flash, shadow, external) {
-        return chosen_for(boot_table::asked_by(bootcfg), flash, shadow, external);
+impl Inputs<'_> {
+    // Whether the sizes of what is handed in are allowed.
+    fn is_allowed(self) -> bool
+        ensures { result
+            ≡ allowed self.entry.bootcfg self.entry.flash.now self.entry.shadow.now self.entry.external.now }
+    {
+        (self.bootcfg <= 3)
+            & (self.flash.len() <= 2097152)
+            & (self.shadow.len() == 12)
+            & (self.external.len() == 8)
     }
-    Choice {
-        answer: Answer::Refused,
-        password: [0; 8],
+
+    // How the head boots, once the sizes are allowed.
+    #[tactic(auto, unfolding(crate::specs::Choosing::chosen))]
+    fn chosen(self) -> Choice
+        ensures { result
+            ≡ chosen (asked_by self.entry.bootcfg) self.entry.flash.now self.entry.shadow.now self.entry.external.now }
+    {
+        let asked = Asked::from(self.bootcfg);
+        let row = boot_table::row_for(asked, self.shadow);
+        match asked {
+            Asked::Internal => settle(
+                Mode::Internal,
+                Entered::FromInternal,
+                self.flash,
+                boot_rchw::first_good(self.flash),
+                row,
+            ),
+            Asked::Serial => serial_boot(Entered::Directly, 0, row),
+            Asked::External => settle(
+                Mode::External,
+                Entered::FromExternal,
+                self.external,
+                boot_rchw::examine_external(self.external),
+                row,
+            ),
+        }
+    }
+
+    // The boot choice, for every input, or none where the call is refused.
+    #[tactic(auto, using(crate::proofs::Claim::claimed))]
+    pub fn choose(self) -> Option<Choice>
+        ensures { ChoiceClaim self.entry.bootcfg self.entry.flash.now self.entry.shadow.now self.entry.external.now result }
+    {
+        if self.is_allowed() {
+            return Some(self.chosen());
+        }
+        None
     }
 }

@@ -6,6 +6,7 @@ use mathlib.Core.List.{List, ◌∷◌, ◌++◌}
 use mathlib.Core.Bool.{Bool, true, false, cond, and-false}
 use borrow.Author.Tests.{le-leb}
 use lib.Dec.{leb}
+use Rattle.std.specs.Prelude.{Some, None}
 use lib.ListN.{length, get_or, drop, replicate, length-append, length-replicate}
 use Rattle.octets.specs.Read.{byte_at}
 use Rattle.boot_table.specs.declared.Asked.{Asked}
@@ -47,12 +48,12 @@ module _ (flash : List ℕ) (full : length flash ≡ 2097152) where
   boots_by
       : (search : Search)
       → searched flash 0 flash_places ≡ search
-      → internal_boot flash ≡ (settled Mode.Internal Entered.FromInternal flash search (row_for Asked.Internal (replicate 12 0))).answer
+      → internal_boot flash ≡ Some (settled Mode.Internal Entered.FromInternal flash search (row_for Asked.Internal (replicate 12 0)))
   unfolding boot_choice chosen asked_by
   boots_by search e =
       let sizes : allowed 0 flash (replicate 12 0) (replicate 8 0) ≡ true = rw (le-leb (length flash) 2097152 (omega (arith, full))) in
-      ap (λ (b : Bool). (cond b (chosen Asked.Internal flash (replicate 12 0) (replicate 8 0)) refusal).answer) sizes
-      ∙ ap (λ (s : Search). (settled Mode.Internal Entered.FromInternal flash s (row_for Asked.Internal (replicate 12 0))).answer) e
+      ap (λ (b : Bool). cond b (Some (chosen Asked.Internal flash (replicate 12 0) (replicate 8 0))) refusal) sizes
+      ∙ ap (λ (s : Search). Some (settled Mode.Internal Entered.FromInternal flash s (row_for Asked.Internal (replicate 12 0)))) e
 
   on : (i : ℕ) → i < 6 → good_place flash (get_or flash_places i 0) ≡ false
       → searched flash i (drop i flash_places) ≡ searched flash (i + 1) (drop (i + 1) flash_places)
@@ -63,7 +64,7 @@ module _ (flash : List ℕ) (full : length flash ≡ 2097152) where
   unfolding settled flash_places row_for row_of control_55aa
   none_good e =
       boots_by
-      (record { found = false; place = 0; examined = 6 })
+      (record { found = None; examined = 6 })
       (on 0 (omega arith) (bad 0x0 (e 0x1))
       ∙ on 1 (omega arith) (bad 0x4000 (e 0x4001))
       ∙ on 2 (omega arith) (bad 0x10000 (e 0x10001))
@@ -79,7 +80,7 @@ module _ (flash : List ℕ) (full : length flash ≡ 2097152) where
   unfolding settled flash_places row_for row_of control_55aa
   fourth_good e f =
       boots_by
-      (record { found = true; place = 0x1C000; examined = 4 })
+      (record { found = Some 0x1C000; examined = 4 })
       (on 0 (omega arith) (bad 0x0 (e 0x1 (λ h. omega (arith, h))))
       ∙ on 1 (omega arith) (bad 0x4000 (e 0x4001 (λ h. omega (arith, h))))
       ∙ on 2 (omega arith) (bad 0x10000 (e 0x10001 (λ h. omega (arith, h))))

@@ -1,10 +1,10 @@
 -- The trial exchanges that 01 marks P ("Trial exchanges"), and two of its slips: one table, and one claim about it.
-use Rattle.std.specs.Prelude.{ℕ, ◌+◌, ◌-◌, ◌≡◌, List, [], ◌∷◌, ◌++◌, Bool, true, false, replicate}
+use Rattle.std.specs.Prelude.{ℕ, ◌+◌, ◌-◌, ◌≡◌, List, [], ◌∷◌, ◌++◌, Bool, true, false, Option, Some, replicate}
 use Rattle.boot_table.specs.Table.{public_password}
 use Rattle.boot_rchw.specs.Places.{good_place}
 use Rattle.session_configuration.specs.declared.Configuration.{Configuration}
 use Rattle.session_configuration.specs.declared.Entered.{Entered}
-use Rattle.boot.specs.declared.Answer.{Answer}
+use Rattle.boot.specs.declared.Choice.{Choice}
 use Rattle.boot.specs.declared.Mode.{Mode}
 use Rattle.boot.specs.Choosing.{boot_choice}
 use Rattle.sram.specs.Region.{size}
@@ -69,23 +69,27 @@ abbrev pub with_5a : ℕ → List ℕ
 with_5a place = replicate (place + 1) 0 ++ 0x5A ∷ replicate (2097150 - place) 0
 
 -- internal boot of a flash, with a shadow row and an external head of zeroes
-abbrev pub internal_boot : List ℕ → Answer
-internal_boot flash = (boot_choice 0 flash (replicate 12 0) (replicate 8 0)).answer
+abbrev pub internal_boot : List ℕ → Option Choice
+internal_boot flash = boot_choice 0 flash (replicate 12 0) (replicate 8 0)
 
 -- what such a boot answers: how, from which place, and how many were looked at; what is read at the place is 0, and the row of 01's table is the
--- first
-abbrev pub boots : Mode → ℕ → ℕ → Answer
+-- first, whose password is that of the shadow row
+abbrev pub boots : Mode → ℕ → ℕ → Option Choice
 boots mode place examined =
-    Answer.Boots
+    Some
     (record {
-      mode = mode;
-      place = place;
-      examined = examined;
-      jump = 0;
-      watchdog = false;
-      bus16 = false;
-      flash = true;
-      nexus = false;
+      boot =
+          record {
+            mode = mode;
+            place = place;
+            examined = examined;
+            jump = 0;
+            watchdog = false;
+            bus16 = false;
+            flash = true;
+            nexus = false;
+          };
+      password = replicate 8 0;
     })
 
 unfoldable pub table : List Case
