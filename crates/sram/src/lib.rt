@@ -1,7 +1,7 @@
 // SRAM: where it lies, and bytes stored in it (01, "A serial session").
 #![tactic(auto)]
 
-ghost use Rattle.std.specs.Prelude.{◌≡◌, ◌/◌, ◌*◌};
+ghost use Rattle.std.specs.Prelude.{◌≡◌, ◌/◌, ◌*◌, ◌^◌, ◌<◌};
 ghost use Rattle.sram.specs.Region.{size, right_size, in_range, aligned, stored_in_range};
 
 use session_configuration::Configuration;
@@ -30,11 +30,19 @@ pub fn is_whole(configuration: Configuration, sram: &[u8]) -> bool
 
 // Whether `count` bytes from an address lie wholly in SRAM.
 #[tactic(auto, unfolding(crate::specs::Region::in_range, crate::specs::Region::base, crate::specs::Region::size))]
+fn holds(configuration: Configuration, address: u32, count: usize) -> bool
+    requires { count < 2 ^ 63 }
+    ensures { result ≡ in_range configuration address count }
+{
+    let end = BASE as usize + size_for(configuration) as usize;
+    BASE <= address && address as usize + count <= end
+}
+
+// `holds` of a count that a number of 32 bits can say.
 pub fn is_in_range(configuration: Configuration, address: u32, count: u32) -> bool
     ensures { result ≡ in_range configuration address count }
 {
-    let size = size_for(configuration);
-    (BASE <= address) & ((address as u64) + (count as u64) <= (BASE as u64) + (size as u64))
+    holds(configuration, address, count as usize)
 }
 
 // Whether an address is a multiple of 4 in SRAM.
@@ -54,17 +62,12 @@ pub fn align(address: u32) -> Aligned
 
 // Stores bytes from an address on: the part of SRAM from there is lent on and receives them. If not all of them are in range, none
 // is stored.
-#[tactic(auto, unfolding(crate::specs::Region::stored_in_range, crate::specs::Region::in_range, crate::specs::Region::base))]
+#[tactic(auto, using(crate::proofs::Lending::sram_back), unfolding(crate::specs::Region::in_range, crate::specs::Region::base, crate::specs::Region::stored_in_range))]
 pub fn store(configuration: Configuration, sram: &mut [u8], address: u32, bytes: &[u8])
     ensures { sram.new ≡ stored_in_range configuration sram.old address bytes.now }
 {
-    let size = size_for(configuration) as usize;
-    if sram.len() == size {
-        if BASE <= address {
-            let at = (address - BASE) as usize;
-            if at + bytes.len() <= size {
-                buffers::fill(&mut sram[at..], bytes);
-            }
-        }
+    if is_whole(configuration, sram) && holds(configuration, address, bytes.len()) {
+        let at = (address - BASE) as usize;
+        buffers::fill(&mut sram[at..], bytes);
     }
 }
