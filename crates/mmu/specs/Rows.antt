@@ -1,11 +1,11 @@
 -- The MMU rows (01, "MMU rows"; 000, Table 16-2).
-use Rattle.std.specs.Prelude.{ℕ, ◌*◌, List, [], ◌∷◌, Bool, true, false, cond, replicate}
+use Rattle.std.specs.Prelude.{ℕ, ◌*◌, List, [], ◌∷◌, Bool, true, false, Result, Ok, Err, cond}
 use Rattle.session_configuration.specs.declared.Entered.{Entered}
 use Rattle.boot.specs.declared.Mode.{Mode}
 use Rattle.session_state.specs.declared.Session.{Session}
 use Rattle.session_state.specs.Accepted.{accepted_vle}
 use Rattle.session_state.specs.Sound.{sound}
-use Rattle.mmu.specs.declared.Mapping.{Mapping}
+use Rattle.mmu.specs.declared.NoRows.{NoRows}
 use Rattle.mmu.specs.declared.Row.{Row}
 
 -- the attributes by the names that Table 16-2 prints
@@ -61,21 +61,6 @@ internal_rows vle =
     ∷ table_row 0xC3F0_0000 0xC3F0_0000 (1 * mbyte) cache_inhibited not_guarded no_vle
     ∷ []
 
--- "number only"
-abbrev pub no_rows : List Row
-no_rows =
-    replicate 5
-    (record {
-      logical = 0;
-      physical = 0;
-      size = 0;
-      inhibited = false;
-      guarded = false;
-      bigendian = false;
-      global = false;
-      vle = false;
-    })
-
 -- Which boots have the rows of external boot (000, 16.3.2.3.1). Serial boot "entered directly .., or .. indirectly from internal boot
 -- mode": "the MMU is configured the same way as for internal boot mode". Entered "indirectly from either external boot ..": "the MMU and
 -- EBI are configured the same way as for one of the external boot modes".
@@ -86,22 +71,27 @@ has_external_rows (Mode.Serial Entered.Directly) = false
 has_external_rows (Mode.Serial Entered.FromInternal) = false
 has_external_rows (Mode.Serial Entered.FromExternal) = true
 
-abbrev pub refused : ℕ → Mapping
-refused number = record { number = number; rows = no_rows }
+-- "Asking for external boot rows gets number 11."; "session not sound": number 8
+abbrev pub refusal_number : NoRows → ℕ
+refusal_number NoRows.UnsoundSession = 8
+refusal_number NoRows.ExternalBoot = 11
 
--- "Asking for external boot rows gets number 11."
-unfoldable pub mapping_for : Mode → Bool → Mapping
-mapping_for mode vle =
-    cond (has_external_rows mode) (refused 11) (record { number = 0; rows = internal_rows vle })
+-- "number only"
+abbrev pub refused : NoRows → Result (List Row) NoRows
+refused reason = Err reason
+
+-- the rows of internal boot, or number 11
+unfoldable pub mapping_for : Mode → Bool → Result (List Row) NoRows
+mapping_for mode vle = cond (has_external_rows mode) (refused NoRows.ExternalBoot) (Ok (internal_rows vle))
 
 -- The rows are asked of a choice, or of a session. Of a choice: "where no header was accepted it is clear"
-abbrev pub choice_rows : Mode → Mapping
+abbrev pub choice_rows : Mode → Result (List Row) NoRows
 choice_rows mode = mapping_for mode false
 
 -- Of a session: "An accepted header with VLE 1 sets VLE on entries 1 to 3; with 0 it clears it" (003, 21.5.5.4, step 2). How its serial boot
--- was entered is fixed by the choice that gave it; "session not sound": number 8
-unfoldable pub session_rows : Session → Mapping
+-- was entered is fixed by the choice that gave it; a session that is not sound gets number 8
+unfoldable pub session_rows : Session → Result (List Row) NoRows
 session_rows session =
     cond (sound session)
     (mapping_for (Mode.Serial session.configuration.entered) (accepted_vle session.stage))
-    (refused 8)
+    (refused NoRows.UnsoundSession)

@@ -3,7 +3,7 @@
 #![tactic(auto)]
 
 ghost use Rattle.std.specs.Prelude.{◌≡◌};
-ghost use Rattle.mmu.specs.Rows.{table_row, internal_rows, has_external_rows, refused, mapping_for, choice_rows, session_rows};
+ghost use Rattle.mmu.specs.Rows.{table_row, internal_rows, refusal_number, has_external_rows, mapping_for, choice_rows, session_rows};
 
 use boot::Mode;
 use session_configuration::Entered;
@@ -22,11 +22,23 @@ pub struct Row {
     pub vle: bool,
 }
 
-// The answer: number 0 with entries 0 to 4, or number 8 or 11 with zeroes.
+// Why there are no rows.
 #[derive(Clone, Copy)]
-pub struct Mapping {
-    pub number: u8,
-    pub rows: [Row; 5],
+pub enum NoRows {
+    UnsoundSession,
+    ExternalBoot,
+}
+
+// The number of a refusal.
+impl From<NoRows> for u8 {
+    ghost from_gives = { λ reason number. number ≡ refusal_number reason };
+
+    fn from(reason: NoRows) -> u8 {
+        match reason {
+            NoRows::UnsoundSession => 8,
+            NoRows::ExternalBoot => 11,
+        }
+    }
 }
 
 // A row of the table, whose attributes are all big endian and global PID.
@@ -34,14 +46,14 @@ fn row_of(logical: u32, physical: u32, size: u32, inhibited: bool, guarded: bool
     ensures { result ≡ table_row logical physical size inhibited guarded vle }
 {
     Row {
-        logical: logical,
-        physical: physical,
-        size: size,
-        inhibited: inhibited,
-        guarded: guarded,
+        logical,
+        physical,
+        size,
+        inhibited,
+        guarded,
         bigendian: true,
         global: true,
-        vle: vle,
+        vle,
     }
 }
 
@@ -62,54 +74,22 @@ fn internal_rows(vle: bool) -> [Row; 5]
 fn is_external(mode: Mode) -> bool
     ensures { result ≡ has_external_rows mode }
 {
-    match mode {
-        Mode::Internal => false,
-        Mode::External => true,
-        Mode::Serial(entered) => match entered {
-            Entered::Directly => false,
-            Entered::FromInternal => false,
-            Entered::FromExternal => true,
-        },
-    }
-}
-
-// A number, and no rows.
-fn refuse(number: u8) -> Mapping
-    ensures { result ≡ refused number }
-{
-    let none = Row {
-        logical: 0,
-        physical: 0,
-        size: 0,
-        inhibited: false,
-        guarded: false,
-        bigendian: false,
-        global: false,
-        vle: false,
-    };
-    Mapping {
-        number: number,
-        rows: [none; 5],
-    }
+    matches!(mode, Mode::External | Mode::Serial(Entered::FromExternal))
 }
 
 // The rows of a boot, with VLE as it is.
 #[tactic(auto, unfolding(crate::specs::Rows::mapping_for))]
-fn rows_for(mode: Mode, vle: bool) -> Mapping
+fn rows_for(mode: Mode, vle: bool) -> Result<[Row; 5], NoRows>
     ensures { result ≡ mapping_for mode vle }
 {
     if is_external(mode) {
-        return refuse(11);
+        return Err(NoRows::ExternalBoot);
     }
-    let rows = internal_rows(vle);
-    Mapping {
-        number: 0,
-        rows: rows,
-    }
+    Ok(internal_rows(vle))
 }
 
 // The rows of a choice: no header was accepted.
-pub fn choice_rows(mode: Mode) -> Mapping
+pub fn choice_rows(mode: Mode) -> Result<[Row; 5], NoRows>
     ensures { result ≡ choice_rows mode }
 {
     rows_for(mode, false)
@@ -117,14 +97,15 @@ pub fn choice_rows(mode: Mode) -> Mapping
 
 // The rows of a session.
 #[tactic(auto, unfolding(crate::specs::Rows::session_rows))]
-pub fn session_rows(session: Session) -> Mapping
+pub fn session_rows(session: Session) -> Result<[Row; 5], NoRows>
     ensures { result ≡ session_rows session }
 {
-    let configuration = session.configuration;
-    let entered = configuration.entered;
-    let stage = session.stage;
-    if session_state::is_sound(session) {
-        return rows_for(Mode::Serial(entered), session_state::accepted_vle(stage));
+    if !session_state::is_sound(session) {
+        return Err(NoRows::UnsoundSession);
     }
-    refuse(8)
+    let entered = session.configuration.entered;
+    rows_for(
+        Mode::Serial(entered),
+        session_state::accepted_vle(session.stage),
+    )
 }
