@@ -60,7 +60,7 @@ stopping_own Port.Serial (Item.Of (Source.Serial mark) bytes) e =
     (((and-eq-true_iff (eqb (length bytes) 1) (not (eqb mark 0))).0 e).0, refl)
 
 pub serial_not_can : Port.Serial ≡ Port.Can → ⊥
-serial_not_can h = let z : ◌≡◌ {A = ℕ} 0 1 = cc in omega arith
+serial_not_can h = cc
 
 -- a whole item of serial is clean or faulty
 pub clean_or_faulty : (item : Item) → well_formed item ≡ true → port_of item ≡ Port.Serial → clean_byte item ≡ false → faulty_byte item ≡ true
