@@ -1,4 +1,5 @@
 -- A step that is refused changes nothing, one that is not refused is answered by the rules, and after either neither 7 nor 8 is due if neither was.
+use Rattle.std.specs.Prelude.{Result, Ok, Err, ⊤}
 use Prim.Native.Nat.{ℕ}
 use mathlib.Core.Path.{◌≡◌, refl}
 use mathlib.Core.List.{List}
@@ -7,6 +8,7 @@ use lib.Dec.{eqb}
 use lib.ListN.{length}
 use Rattle.password.specs.Passing.{passes}
 use Rattle.session_state.specs.declared.Port.{Port}
+use Rattle.session_state.specs.declared.Refusal.{Refusal}
 use Rattle.session_state.specs.declared.Session.{Session}
 use Rattle.session_items.specs.declared.Reaction.{Reaction}
 use Rattle.session_items.specs.declared.Role.{Role}
@@ -14,10 +16,9 @@ use Rattle.session_items.specs.Items.{Item, well_formed, bytes_of}
 use Rattle.session_items.specs.Reacting.{reaction}
 use Rattle.session_answers.specs.declared.Fault.{Fault}
 use Rattle.session_answers.specs.declared.Outcome.{Outcome}
-use Rattle.session_answers.specs.declared.Prechecked.{Prechecked}
 use Rattle.session_answers.specs.Answers.{outcome_number, precheck, unchanged}
 use Rattle.session_answers.proofs.Laws.{Accepted}
-use Rattle.header.specs.declared.Validated.{Validated}
+use Rattle.header.specs.declared.Header.{Header}
 use Rattle.header.specs.Reading.{header_read, validated}
 use Rattle.session.specs.declared.Transition.{Transition}
 use Rattle.session.specs.Rules.{received, checked, begun, loaded, password_received, header_received, transition, taken_as, ruled, step_prechecked, step}
@@ -36,9 +37,9 @@ either : (a b : Transition) (test : Bool) → IsAnswer a.outcome → IsAnswer b.
 either a b true h k = h
 either a b false h k = k
 
-begun_answers : (session : Session) (port : Port) (v : Validated) → IsAnswer (begun session port v).outcome
-begun_answers session port (Validated.Refused refusal) = tt
-begun_answers session port (Validated.Fits header) = tt
+begun_answers : (session : Session) (port : Port) (v : Result Header Refusal) → IsAnswer (begun session port v).outcome
+begun_answers session port (Err refusal) = tt
+begun_answers session port (Ok header) = tt
 
 transition_answers : (role : Role) (session : Session) (port : Port) (bytes : List ℕ) → IsAnswer (transition role session port bytes).outcome
 unfolding transition password_received checked header_received loaded
@@ -57,11 +58,11 @@ module _ (session : Session) (sram : List ℕ) (item : Item) where
   ruled_answers (Reaction.Takes role port) = transition_answers role session port (bytes_of item)
   ruled_answers Reaction.Stops = tt
 
-  pub answered : precheck session sram (well_formed item) ≡ Prechecked.Passed → IsAnswer (step session sram item).answer.outcome
+  pub answered : precheck session sram (well_formed item) ≡ Ok tt → IsAnswer (step session sram item).answer.outcome
   unfolding step
   answered e = rw e (ruled_answers (reaction session.stage item))
 
-  pub refused : (fault : Fault) → precheck session sram (well_formed item) ≡ Prechecked.Refused fault
+  pub refused : (fault : Fault) → precheck session sram (well_formed item) ≡ Err fault
       → step session sram item ≡ unchanged (Outcome.Refused fault) session sram
   unfolding step
   refused fault e = rw e
@@ -71,12 +72,12 @@ module _ (session : Session) (sram : List ℕ) (item : Item) where
   unfolding step taken_as
   step-number = by (precheck session sram (well_formed item)) (reaction session.stage item) refl
     where
-      by : (first : Prechecked) (r : Reaction) → reaction session.stage item ≡ r
+      by : (first : Result ⊤ Fault) (r : Reaction) → reaction session.stage item ≡ r
           → (step_prechecked first session sram item).number ≡ outcome_number (step_prechecked first session sram item).answer.outcome
-      by (Prechecked.Refused fault) r e = refl
-      by Prechecked.Passed Reaction.Ignores e = rw e
-      by Prechecked.Passed (Reaction.Takes role port) e = rw e
-      by Prechecked.Passed Reaction.Stops e = rw e
+      by (Err fault) r e = refl
+      by (Ok passed) Reaction.Ignores e = rw e
+      by (Ok passed) (Reaction.Takes role port) e = rw e
+      by (Ok passed) Reaction.Stops e = rw e
 
   pub accepted : Accepted session sram → Accepted (step session sram item).session (step session sram item).sram
   unfolding taken_as

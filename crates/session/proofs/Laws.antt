@@ -1,4 +1,5 @@
 -- What an item that is taken says of its bytes; what a step is where neither 7 nor 8 is due, and that neither is due after it.
+use Rattle.std.specs.Prelude.{Result, Ok, Err}
 use Prim.Native.Nat.{ℕ, ◌+◌, ◌-◌, ◌≤◌}
 use native.Mathlib.Omega.{arith}
 use native.Mathlib.Nat.{min-le_left}
@@ -20,7 +21,7 @@ use Rattle.session_state.specs.declared.Session.{Session}
 use Rattle.session_state.specs.declared.Stage.{Stage}
 use Rattle.session_state.specs.Sound.{load_fits, count_fits, fitting, sound}
 use Rattle.session_state.proofs.Laws.{SizeFits, load_fits_lem, sound_fits, sound_size, sound_again}
-use Rattle.header.specs.declared.Validated.{Validated}
+use Rattle.header.specs.declared.Header.{Header}
 use Rattle.header.specs.Reading.{header_read, announces_none, within, validated}
 use Rattle.session_items.specs.declared.Reaction.{Reaction}
 use Rattle.session_items.specs.declared.Role.{Role}
@@ -30,7 +31,6 @@ use Rattle.session_items.specs.Reacting.{counts_as, heard_opened, reaction}
 use Rattle.session_items.proofs.Laws.{by_hearing, by_hearing-opened, EightBy, DataBy, Sized, counted, stopping_own, serial_not_can}
 use Rattle.session_answers.specs.declared.Fault.{Fault}
 use Rattle.session_answers.specs.declared.Outcome.{Outcome}
-use Rattle.session_answers.specs.declared.Prechecked.{Prechecked}
 use Rattle.session_answers.specs.Answers.{result_of, precheck, unheeded, unchanged}
 use Rattle.session_answers.proofs.Laws.{Accepted, precheck_passed}
 use Rattle.session.specs.declared.Transition.{Transition}
@@ -139,7 +139,7 @@ module _ (session : Session) (sram : List ℕ) (item : Item) (ok : Accepted sess
     where
       either
           : (formed : Bool)
-          → step_prechecked (cond formed Prechecked.Passed (Prechecked.Refused Fault.Form)) session sram item
+          → step_prechecked (cond formed (Ok tt) (Err Fault.Form)) session sram item
           ≡ unchanged (cond formed Outcome.Ignored (Outcome.Refused Fault.Form)) session sram
       either true = rw e
       either false = refl
@@ -208,11 +208,11 @@ module _ (session : Session) where
   begun-fits port bytes =
       let header = header_read session.configuration bytes in
       let inside = within session.configuration header in
-      let holds_of : Validated → Type 0 = λ v. Fits session (begun session port v) in
-      by_test holds_of (Validated.Refused Refusal.Length)
-      (cond inside (Validated.Fits header) (Validated.Refused Refusal.Range)) (announces_none header)
+      let holds_of : Result Header Refusal → Type 0 = λ v. Fits session (begun session port v) in
+      by_test holds_of (Err Refusal.Length)
+      (cond inside (Ok header) (Err Refusal.Range)) (announces_none header)
       (λ e. stopped-fits Refusal.Length)
-      (λ e. by_test holds_of (Validated.Fits header) (Validated.Refused Refusal.Range) inside
+      (λ e. by_test holds_of (Ok header) (Err Refusal.Range) inside
       (λ f. entered_fits (Stage.Data port (load_from header)) Outcome.Taken (begun-load bytes e f))
       (λ f. stopped-fits Refusal.Range))
 
@@ -317,7 +317,7 @@ placed_room Role.Header port session count size g = g.room
 placed_room (Role.Data load) port session count size g = (g.1, g.2, size.addressed)
 
 pub taken-ready : (session : Session) (sram : List ℕ) (item : Item) (role : Role) (port : Port)
-    → precheck session sram (well_formed item) ≡ Prechecked.Passed
+    → precheck session sram (well_formed item) ≡ Ok tt
     → reaction session.stage item ≡ Reaction.Takes role port
     → (right_size session.configuration sram ≡ true)
     × (length (bytes_of item) ≤ 8)

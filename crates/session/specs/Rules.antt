@@ -1,5 +1,5 @@
 -- What an item does to a session and to SRAM (01, "A serial session" and "What the head says back"; 02, E2).
-use Rattle.std.specs.Prelude.{ℕ, ◌+◌, ◌-◌, List, ◌++◌, cond, length, take, replicate, eqb}
+use Rattle.std.specs.Prelude.{ℕ, ◌+◌, ◌-◌, List, ◌++◌, cond, length, take, replicate, eqb, ⊤, Ok, Err, Result as OkOrErr}
 use Rattle.buffers.specs.Write.{over}
 use Rattle.password.specs.Passing.{passes}
 use Rattle.sram.specs.Region.{stored}
@@ -11,14 +11,13 @@ use Rattle.session_state.specs.declared.Session.{Session}
 use Rattle.session_state.specs.declared.Stage.{Stage}
 use Rattle.session_state.specs.Accepted.{accepted_vle}
 use Rattle.header.specs.declared.Header.{Header}
-use Rattle.header.specs.declared.Validated.{Validated}
 use Rattle.header.specs.Reading.{header_read, validated}
 use Rattle.session_items.specs.declared.Reaction.{Reaction}
 use Rattle.session_items.specs.declared.Role.{Role}
 use Rattle.session_items.specs.Items.{Item, well_formed, bytes_of}
 use Rattle.session_items.specs.Reacting.{reaction}
 use Rattle.session_answers.specs.declared.Outcome.{Outcome}
-use Rattle.session_answers.specs.declared.Prechecked.{Prechecked}
+use Rattle.session_answers.specs.declared.Fault.{Fault}
 use Rattle.session_answers.specs.declared.StepResult.{StepResult}
 use Rattle.session_answers.specs.Answers.{Result, result_of, precheck, echo_of, nothing_taken, unchanged}
 use Rattle.session.specs.declared.Transition.{Transition}
@@ -67,9 +66,9 @@ load_from header =
     record { start = header.start; vle = header.vle; next = header.start.0; owed = header.length }
 
 -- the 8 header bytes: "Length 0 stops the session; otherwise start and length must lie wholly in SRAM or the session stops."
-abbrev pub begun : Session → Port → Validated → Transition
-begun session port (Validated.Refused refusal) = stops session refusal
-begun session port (Validated.Fits header) = enters session (Stage.Data port (load_from header)) Outcome.Taken
+abbrev pub begun : Session → Port → OkOrErr Header Refusal → Transition
+begun session port (Err refusal) = stops session refusal
+begun session port (Ok header) = enters session (Stage.Data port (load_from header)) Outcome.Taken
 
 -- the bytes of a load: "each at the next address. With the last one the head jumps to the start address."
 abbrev pub jump_of : Load → Jump
@@ -129,9 +128,9 @@ ruled (Reaction.Takes role port) session sram item = taken_as role port session 
 ruled Reaction.Stops session sram item = result_of (stopped_by_faulty_byte session) sram
 
 -- "One item: 7, then 8, then 6, then the session's rules."
-abbrev pub step_prechecked : Prechecked → Session → List ℕ → Item → Result
-step_prechecked Prechecked.Passed session sram item = ruled (reaction session.stage item) session sram item
-step_prechecked (Prechecked.Refused fault) session sram item = unchanged (Outcome.Refused fault) session sram
+abbrev pub step_prechecked : OkOrErr ⊤ Fault → Session → List ℕ → Item → Result
+step_prechecked (Ok passed) session sram item = ruled (reaction session.stage item) session sram item
+step_prechecked (Err fault) session sram item = unchanged (Outcome.Refused fault) session sram
 
 -- one step: an item is handed in
 unfoldable pub step : Session → List ℕ → Item → Result
