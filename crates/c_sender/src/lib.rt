@@ -83,7 +83,7 @@ pub fn item_numbers(sent: Sent) -> [u32; ITEM_WIDTH]
 {
     let source = sent.source;
     [
-        c_session::port_number(session_items::port_of(source)),
+        c_session::port_number(source.into()),
         identifier_of(source),
         c_answer::wide(sent.length),
     ]
