@@ -1,3 +1,3 @@
 pub mod Laws
-pub mod Window
 pub mod Locating
+pub mod Window

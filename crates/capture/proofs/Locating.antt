@@ -1,50 +1,37 @@
--- The reader's answer in four places: refused, without room, and written.
+-- The reader's answer in four places.
 use Prim.Native.Nat.{ℕ, ◌-◌}
 use native.Mathlib.Omega.{arith}
 use mathlib.Core.Path.{◌≡◌, refl, sym, ap, ◌∙◌}
 use mathlib.Core.List.{List, [], ◌∷◌}
 use mathlib.Core.Bool.{Bool, true, false}
-use borrow.Author.Tests.{eq-eqb, ne_eqb, leb-false}
+use borrow.Author.Tests.{eq-eqb, leb-false}
 use lib.Dec.{leb}
-use lib.ListN.{length, set}
-use Rattle.capture.specs.Records.{Read, reads, body_at, as_read}
+use lib.ListN.{length}
+use Rattle.capture.specs.Records.{Read, ended, reads, body_at}
 use Rattle.capture.specs.Located.{located_at, as_located}
-use Rattle.capture.proofs.Laws.{past}
+use Rattle.capture.proofs.Laws.{reads_past}
 
--- four places, written one after the other
-four_written
-    : (fields : List ℕ) (a b c d : ℕ)
-    → length fields ≡ 4
-    → set (set (set (set fields 0 a) 1 b) 2 c) 3 d ≡ a ∷ b ∷ c ∷ d ∷ []
-four_written [] a b c d e = absurd (omega arith)
-four_written (x ∷ []) a b c d e = absurd (omega arith)
-four_written (x ∷ y ∷ []) a b c d e = absurd (omega arith)
-four_written (x ∷ y ∷ z ∷ []) a b c d e = absurd (omega arith)
-four_written (x ∷ y ∷ z ∷ w ∷ []) a b c d e = refl
-four_written (x ∷ y ∷ z ∷ w ∷ v ∷ l) a b c d e = absurd (omega arith)
-
-module _ (capture : List ℕ) (at number kind next : ℕ) (body fields : List ℕ) (told : as_read number kind next body ≡ reads capture at) where
-  pub refuses : (number ≡ 0 → ⊥) → as_located number fields ≡ located_at capture at fields
-  unfolding located_at
-  refuses h = rw (← told, ne_eqb number 0 h)
-
-  pub no_room : number ≡ 0 → (length fields ≡ 4 → ⊥) → as_located 9 fields ≡ located_at capture at fields
-  unfolding located_at
-  no_room e h = rw (← told, eq-eqb number 0 e, ne_eqb (length fields) 4 h)
-
+module _ (capture : List ℕ) (at : ℕ) where
   -- a body that was answered starts so far before the next record
-  starts : number ≡ 0 → next - length body ≡ body_at capture at
+  starts : (read : Read) → read ≡ reads capture at → read.number ≡ 0 → read.next - length read.body ≡ body_at capture at
   unfolding body_at
-  starts e = by_test (leb at (length capture)) refl
+  starts read told good = by_test (leb at (length capture)) refl
     where
-      by_test : (t : Bool) → leb at (length capture) ≡ t → next - length body ≡ body_at capture at
+      by_test : (t : Bool) → leb at (length capture) ≡ t → read.next - length read.body ≡ body_at capture at
       by_test true h = rw (h, ← told)
       by_test false h =
-          let ten = ap (λ (r : Read). r.number) (told ∙ sym (past capture at (leb-false at (length capture) h)).0) in
-          absurd (omega (arith, e, ten))
+          let ten = ap (λ (r : Read). r.number) (told ∙ sym (reads_past capture at (leb-false at (length capture) h))) in
+          absurd (omega (arith, good, ten))
 
-  pub writes : number ≡ 0 → length fields ≡ 4
-      → as_located 0 (set (set (set (set fields 0 kind) 1 next) 2 (next - length body)) 3 (length body)) ≡ located_at capture at fields
+  pub located_record : (fields : List ℕ) (kind next : ℕ) (body : List ℕ) → length fields ≡ 4
+      → ◌≡◌ {A = Read} record { number = 0; kind = kind; next = next; body = body } (reads capture at)
+      → as_located 0 (kind ∷ next ∷ (next - length body) ∷ length body ∷ []) ≡ located_at capture at fields
   unfolding located_at
-  writes e h =
-      rw (four_written fields kind next (next - length body) (length body) h, starts e, ← told, eq-eqb number 0 e, eq-eqb (length fields) 4 h)
+  located_record fields kind next body four told =
+      rw (starts _ told refl, ← told, eq-eqb (length fields) 4 four)
+
+  pub located_end : (fields : List ℕ) → length fields ≡ 4 → ended at ≡ reads capture at
+      → as_located 0 (0 ∷ at ∷ at ∷ 0 ∷ []) ≡ located_at capture at fields
+  located_end fields four told =
+      let start : at - 0 ≡ at = omega arith in
+      rw start at (located_record fields 0 at [] four told)

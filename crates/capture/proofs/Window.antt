@@ -3,15 +3,16 @@ use Prim.Native.Nat.{ℕ, ◌+◌, ◌≤◌}
 use native.Mathlib.Omega.{arith}
 use mathlib.Core.Path.{◌≡◌, refl, sym, ap, ◌∙◌}
 use mathlib.Core.List.{List, [], ◌∷◌}
-use mathlib.Core.Bool.{Bool, true, false, ◌&&◌, and-false}
-use borrow.Author.Tests.{leb-true, leb-false, le-leb}
-use lib.Dec.{leb, eqb}
-use lib.ListN.{length, take, drop}
-use lib.Seq.{take_all, take-take, take-add, drop_at, length-take-le, get_or-take}
+use borrow.Author.Tests.{le-leb}
+use lib.Dec.{leb}
+use lib.ListN.{length, take, drop, length-take}
+use Rattle.std.proofs.lemmas.List.{drop-take}
+use Rattle.std.proofs.lemmas.Bool.Decides.{nat_tests}
+use lib.Seq.{take-take, get_or-take}
 use Rattle.octets.specs.Read.{half_at}
-use Rattle.capture.specs.declared.RecordHeader.{RecordHeader}
-use Rattle.capture.specs.Records.{length_of, version_of, kind_of, identifier_of, fits_kind, fits_can, good_record, header_found, answered, found, reads}
-use Rattle.capture.proofs.Laws.{kind-length, header-room}
+use Rattle.std.specs.Prelude.{Option, Some, None}
+use Rattle.capture.specs.Records.{good_record, header_found, answered, found, reads}
+use Rattle.capture.proofs.Laws.{header_room}
 
 -- the bytes, and the first 14 of them
 module _ (bytes : List ℕ) where
@@ -23,45 +24,27 @@ module _ (bytes : List ℕ) where
 
   -- whether a record of at most 14 bytes is whole
   whole_same : (l : ℕ) → l ≤ 12 → leb (2 + l) (length first) ≡ leb (2 + l) (length bytes)
-  whole_same l h = by_test (leb (length bytes) 14) refl
-    where
-      by_test : (t : Bool) → leb (length bytes) 14 ≡ t → leb (2 + l) (length first) ≡ leb (2 + l) (length bytes)
-      by_test true e = ap (λ (b : List ℕ). leb (2 + l) (length b)) (take_all 14 bytes (leb-true (length bytes) 14 e))
-      by_test false e =
-          let long = leb-false (length bytes) 14 e in
-          le-leb (2 + l) (length first) (omega (arith, length-take-le 14 bytes (omega arith)))
-          ∙ sym (le-leb (2 + l) (length bytes) (omega arith))
+  whole_same l h = grind (arith, nat_tests, length-take)
 
   good_same : good_record first ≡ good_record bytes
   unfolding good_record
   good_same =
       rw (half_same 0 (omega arith), get_or-take 14 bytes 2 0 (omega arith), get_or-take 14 bytes 3 0 (omega arith), half_same 4 (omega arith))
-      (by_test (fits_kind (kind_of bytes) (length_of bytes)) refl)
-    where
-      by_test : (t : Bool) → fits_kind (kind_of bytes) (length_of bytes) ≡ t
-          → leb (2 + length_of bytes) (length first) && eqb (version_of bytes) 1 && t && fits_can (kind_of bytes) (identifier_of bytes)
-          ≡ leb (2 + length_of bytes) (length bytes) && eqb (version_of bytes) 1 && t && fits_can (kind_of bytes) (identifier_of bytes)
-      by_test true e = rw (whole_same (length_of bytes) (kind-length (kind_of bytes) (length_of bytes) e).1)
-      by_test false e = rw (and-false (leb (2 + length_of bytes) (length first) && eqb (version_of bytes) 1), and-false (leb (2 + length_of bytes) (length bytes) && eqb (version_of bytes) 1))
+      (grind (arith, nat_tests, whole_same))
 
   header_same : header_found first ≡ header_found bytes
   unfolding header_found
   header_same = rw (good_same, half_same 0 (omega arith), get_or-take 14 bytes 3 0 (omega arith))
 
-  body_same : (size : ℕ) → 4 + size ≤ length bytes → size ≤ 10 → take size (drop 4 first) ≡ take size (drop 4 bytes)
-  body_same size h k =
-      ap (take size)
-      (ap (drop 4) (take-add 4 10 bytes) ∙ drop_at (take 4 bytes) (take 10 (drop 4 bytes)) 4 (length-take-le 4 bytes (omega arith)))
-      ∙ take-take size 10 (drop 4 bytes) k
+  body_same : (size : ℕ) → size ≤ 10 → take size (drop 4 first) ≡ take size (drop 4 bytes)
+  body_same size k = ap (take size) (drop-take 4 10 bytes) ∙ take-take size 10 (drop 4 bytes) k
 
   answered_same : (at : ℕ) → answered (header_found first) at first ≡ answered (header_found bytes) at bytes
   answered_same at = rw header_same (by_header (header_found bytes) refl)
     where
-      by_header : (header : RecordHeader) → header_found bytes ≡ header → answered header at first ≡ answered header at bytes
-      by_header RecordHeader.Bad e = refl
-      by_header (RecordHeader.Good kind size) e =
-          let room = header-room bytes kind size e in
-          rw (body_same size room.0 room.1)
+      by_header : (header : Option (ℕ × ℕ)) → header_found bytes ≡ header → answered header at first ≡ answered header at bytes
+      by_header None e = refl
+      by_header (Some (kind, size)) e = rw (body_same size (header_room bytes kind size e).1)
 
 pub found_first : (at : ℕ) (bytes : List ℕ) → found at (take 14 bytes) ≡ found at bytes
 found_first at [] = refl

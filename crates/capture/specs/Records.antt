@@ -1,7 +1,8 @@
 -- The truck's capture file (01, "The truck's capture file").
-use Rattle.std.specs.Prelude.{ℕ, ◌+◌, ◌-◌, List, [], ◌∷◌, Bool, cond, not, ◌&&◌, ◌||◌, length, take, drop, leb, eqb}
+use Rattle.std.specs.Prelude.{ℕ, ◌+◌, ◌-◌, List, [], ◌∷◌, Bool, cond, not, ◌&&◌, ◌||◌, Option, Some, None, Result, Ok, Err, length, take, drop, leb, eqb}
 use Rattle.octets.specs.Read.{byte_at, half_at}
-use Rattle.capture.specs.declared.RecordHeader.{RecordHeader}
+use Rattle.capture.specs.declared.Record.{Record}
+use Rattle.capture.specs.declared.Damaged.{Damaged}
 
 -- "two bytes length L (of all that follows in the record), one version byte 01, one kind byte, a body"
 abbrev pub length_of : List ℕ → ℕ
@@ -37,9 +38,8 @@ good_record bytes =
     && fits_can (kind_of bytes) (identifier_of bytes)
 
 -- its kind, and how many bytes its body has
-unfoldable pub header_found : List ℕ → RecordHeader
-header_found bytes =
-    cond (good_record bytes) (RecordHeader.Good (kind_of bytes) (length_of bytes - 2)) RecordHeader.Bad
+unfoldable pub header_found : List ℕ → Option (ℕ × ℕ)
+header_found bytes = cond (good_record bytes) (Some (kind_of bytes, length_of bytes - 2)) None
 
 -- The reader's answer: the number; the kind, or 0 as the end mark; where the next record starts; the body.
 pub record Read : Type 0 where
@@ -57,9 +57,9 @@ abbrev pub ended : ℕ → Read
 ended at = record { number = 0; kind = 0; next = at; body = [] }
 
 -- a record's body, "and where the next record starts"
-abbrev pub answered : RecordHeader → ℕ → List ℕ → Read
-answered RecordHeader.Bad at bytes = refused at
-answered (RecordHeader.Good kind size) at bytes =
+abbrev pub answered : Option (ℕ × ℕ) → ℕ → List ℕ → Read
+answered None at bytes = refused at
+answered (Some (kind, size)) at bytes =
     record { number = 0; kind = kind; next = at + 4 + size; body = take size (drop 4 bytes) }
 
 -- what stands at a place, of which these are the capture's bytes from there on
@@ -81,6 +81,9 @@ body_at capture at =
 abbrev pub beyond : ℕ × ℕ → ℕ → ℕ × ℕ
 beyond address count = (address.0, address.1 + count)
 
--- what a call leaves behind its three references, and the bytes that it returns
-abbrev pub as_read : ℕ → ℕ → ℕ → List ℕ → Read
-as_read number kind next body = record { number = number; kind = kind; next = next; body = body }
+-- the result of a call at a place
+abbrev pub as_read : ℕ → Result (Option Record) Damaged → Read
+as_read at (Err damaged) = refused at
+as_read at (Ok None) = ended at
+as_read at (Ok (Some found)) =
+    record { number = 0; kind = found.kind; next = found.next; body = found.body.now }

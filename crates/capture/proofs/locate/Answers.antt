@@ -1,16 +1,13 @@
--- Refused, without room, and written.
-use Rattle.capture.proofs.Locating.{refuses, no_room, writes}
+-- A record, and the end mark.
+use Rattle.capture.proofs.Locating.{located_record, located_end}
+use Rattle.capture.proofs.locate.Goals.{in-Some, in-None}
 use Rattle.capture.proofs.locate.Goals as goal
-
-pub returns-then-number-ne0 : goal.returns-then-number-ne0
-returns-then-number-ne0 c =
-    refuses c.args.capture.now c.args.at c.read-body.new.number c.read-body.new.kind c.read-body.new.next c.read-body.result.now c.args.fields.now c.read-body.ensures.given c.if-number-ne0.true
-
-pub returns-then-fields-ne4 : goal.returns-then-fields-ne4
-returns-then-fields-ne4 c =
-    no_room c.args.capture.now c.args.at c.read-body.new.number c.read-body.new.kind c.read-body.new.next c.read-body.result.now c.args.fields.now c.read-body.ensures.given c.if-number-ne0.false c.if-fields-ne4.true
 
 pub returns : goal.returns
 returns c =
-    rw c.difference.ensures
-    (writes c.args.capture.now c.args.at c.read-body.new.number c.read-body.new.kind c.read-body.new.next c.read-body.result.now c.args.fields.now c.read-body.ensures.given c.if-number-ne0.false c.if-fields-ne4.false)
+    let told = c.in-Ok.ensures.given in
+    rw c.copy_from_slice.ensures.after
+    (elim c.match-found.branch [
+      | in-Some w ↦ rw (w.located-is, w.saturating_sub-start.ensures) (located_record _ _ _ _ _ _ c.if-fields-ne4.false (rw w.in-Some.is at told))
+      | in-None w ↦ rw w.located-is (located_end _ _ _ c.if-fields-ne4.false (rw w.in-None.is at told))
+    ])
