@@ -1,6 +1,7 @@
 -- The truck's capture file (01, "The truck's capture file").
 use Rattle.std.specs.Prelude.{ℕ, ◌+◌, ◌-◌, List, [], ◌∷◌, Bool, cond, not, ◌&&◌, ◌||◌, Option, Some, None, Result, Ok, Err, length, take, drop, leb, eqb}
 use Rattle.octets.specs.Read.{byte_at, half_at}
+use Rattle.capture.specs.declared.Kind.{Kind}
 use Rattle.capture.specs.declared.Record.{Record}
 use Rattle.capture.specs.declared.Damaged.{Damaged}
 
@@ -17,6 +18,20 @@ kind_of bytes = byte_at bytes 3
 -- "Kind 1, CAN: two identifier bytes"
 abbrev pub identifier_of : List ℕ → ℕ
 identifier_of bytes = half_at bytes 4
+
+-- the number of a kind, and the kind of a number
+abbrev pub kind_number : Kind → ℕ
+kind_number Kind.Can = 1
+kind_number Kind.Clean = 2
+kind_number Kind.Faulty = 3
+kind_number Kind.Reset = 4
+
+abbrev pub kind_under : ℕ → Result Kind Damaged
+kind_under number =
+    cond (eqb number 1) (Ok Kind.Can)
+    (cond (eqb number 2) (Ok Kind.Clean)
+    (cond (eqb number 3) (Ok Kind.Faulty)
+    (cond (eqb number 4) (Ok Kind.Reset) (Err record {}))))
 
 -- "Kind 1, CAN: .. L 4 to 12. Kind 2 a clean, kind 3 a faulty serial byte, L 3. Kind 4 reset, L 2."
 abbrev pub fits_kind : ℕ → ℕ → Bool
@@ -40,6 +55,11 @@ good_record bytes =
 -- its kind, and how many bytes its body has
 unfoldable pub header_found : List ℕ → Option (ℕ × ℕ)
 header_found bytes = cond (good_record bytes) (Some (kind_of bytes, length_of bytes - 2)) None
+
+-- the same as a call gives it
+abbrev pub as_header : Result (Kind × ℕ) Damaged → Option (ℕ × ℕ)
+as_header (Err damaged) = None
+as_header (Ok (kind, size)) = Some (kind_number kind, size)
 
 -- The reader's answer: the number; the kind, or 0 as the end mark; where the next record starts; the body.
 pub record Read : Type 0 where
@@ -86,4 +106,4 @@ abbrev pub as_read : ℕ → Result (Option Record) Damaged → Read
 as_read at (Err damaged) = refused at
 as_read at (Ok None) = ended at
 as_read at (Ok (Some found)) =
-    record { number = 0; kind = found.kind; next = found.next; body = found.body.now }
+    record { number = 0; kind = kind_number found.kind; next = found.next; body = found.body.now }

@@ -2,13 +2,22 @@
 #![tactic(auto)]
 
 ghost use Rattle.std.specs.Prelude.{◌≡◌, IfOk, IfSome};
-ghost use Rattle.capture.specs.Records.{fits_kind, fits_can, good_record, header_found, reads, body_at, beyond, as_read};
+ghost use Rattle.capture.specs.Records.{kind_number, kind_under, fits_kind, fits_can, as_header, header_found, reads, body_at, beyond, as_read};
 ghost use Rattle.capture.specs.Located.{located_at, as_located};
+
+// The kind of a record.
+#[derive(Clone, Copy)]
+pub enum Kind {
+    Can,
+    Clean,
+    Faulty,
+    Reset,
+}
 
 // A record that keeps the rules: its kind, its body, which is a part of the capture, and where the next record starts.
 #[derive(Clone, Copy)]
 pub struct Record<'a> {
-    pub kind: u8,
+    pub kind: Kind,
     pub body: &'a [u8],
     pub next: usize,
 }
@@ -17,45 +26,68 @@ pub struct Record<'a> {
 #[derive(Clone, Copy)]
 pub struct Damaged;
 
-// Whether a record of this kind may have this length.
-fn fits_kind(kind: u8, length: u16) -> bool
-    ensures { result ≡ fits_kind kind length }
-{
-    match kind {
-        1 => (4..=12).contains(&length),
-        2 | 3 => length == 3,
-        4 => length == 2,
-        _ => false,
+impl From<Kind> for u8 {
+    ghost from_gives = { λ kind number. number ≡ kind_number kind };
+
+    fn from(kind: Kind) -> u8 {
+        match kind {
+            Kind::Can => 1,
+            Kind::Clean => 2,
+            Kind::Faulty => 3,
+            Kind::Reset => 4,
+        }
     }
 }
 
-// Whether a record of this kind may have this identifier.
-fn fits_can(kind: u8, identifier: u16) -> bool
-    ensures { result ≡ fits_can kind identifier }
-{
-    kind != 1 || identifier <= 2047
+impl TryFrom<u8> for Kind {
+    type Error = Damaged;
+
+    ghost try_from_gives = { λ number result. result ≡ kind_under number };
+
+    fn try_from(number: u8) -> Result<Kind, Damaged> {
+        match number {
+            1 => Ok(Kind::Can),
+            2 => Ok(Kind::Clean),
+            3 => Ok(Kind::Faulty),
+            4 => Ok(Kind::Reset),
+            _ => Err(Damaged),
+        }
+    }
 }
 
-// Whether the bytes begin with a record that is whole and keeps the rules.
-#[tactic(auto, unfolding(crate::specs::Records::good_record))]
-fn is_good_record(bytes: &[u8]) -> bool
-    ensures { result ≡ good_record bytes.now }
+impl Kind {
+    // Whether a record of this kind may have this length.
+    fn fits(self, length: u16) -> bool
+        ensures { result ≡ fits_kind (kind_number self) length }
+    {
+        match self {
+            Kind::Can => (4..=12).contains(&length),
+            Kind::Clean | Kind::Faulty => length == 3,
+            Kind::Reset => length == 2,
+        }
+    }
+
+    // Whether a record of this kind may have this identifier.
+    fn fits_can(self, identifier: u16) -> bool
+        ensures { result ≡ fits_can (kind_number self) identifier }
+    {
+        !matches!(self, Kind::Can) || identifier <= 2047
+    }
+}
+
+// The header of the record with which the bytes begin: its kind, and how many bytes its body has.
+#[tactic(auto, unfolding(crate::specs::Records::header_found, crate::specs::Records::good_record))]
+fn find_header(bytes: &[u8]) -> Result<(Kind, usize), Damaged>
+    ensures { as_header result ≡ header_found bytes.now }
 {
     let length = octets::half(bytes, 0);
-    let kind = octets::byte(bytes, 3);
-    2 + usize::from(length) <= bytes.len()
-        && octets::byte(bytes, 2) == 1
-        && fits_kind(kind, length)
-        && fits_can(kind, octets::half(bytes, 4))
-}
-
-// The kind of the record with which the bytes begin, and how many bytes its body has.
-#[tactic(auto, unfolding(crate::specs::Records::header_found))]
-fn find_header(bytes: &[u8]) -> Option<(u8, usize)>
-    ensures { result ≡ header_found bytes.now }
-{
-    let size = usize::from(octets::half(bytes, 0)).saturating_sub(2);
-    is_good_record(bytes).then_some((octets::byte(bytes, 3), size))
+    let kind = Kind::try_from(octets::byte(bytes, 3))?;
+    let whole = 2 + usize::from(length) <= bytes.len();
+    let versioned = octets::byte(bytes, 2) == 1;
+    if whole && versioned && kind.fits(length) && kind.fits_can(octets::half(bytes, 4)) {
+        return Ok((kind, usize::from(length).saturating_sub(2)));
+    }
+    Err(Damaged)
 }
 
 // The record at a place, or none at the end of the capture.
@@ -71,7 +103,7 @@ pub fn read<'a>(capture: &'a [u8], at: usize) -> Result<Option<Record<'a>>, Dama
     if bytes.is_empty() {
         return Ok(None);
     }
-    let (kind, size) = find_header(bytes).ok_or(Damaged)?;
+    let (kind, size) = find_header(bytes)?;
     Ok(Some(Record {
         kind,
         body: &bytes[4..4 + size],
@@ -79,7 +111,8 @@ pub fn read<'a>(capture: &'a [u8], at: usize) -> Result<Option<Record<'a>>, Dama
     }))
 }
 
-// The same answer in four places: the kind or the end mark, where the next record starts, where the body starts, its length.
+// The same answer in four places: the kind or the end mark, where the next record starts, where the body starts, its length. The numbers and
+// the places are the C interface's (`boot_assist_flat_read`).
 #[tactic(auto, using(crate::proofs::Locating::located_record, crate::proofs::Locating::located_end), unfolding(crate::specs::Located::located_at))]
 pub fn locate(capture: &[u8], at: usize, fields: &mut [usize]) -> u8
     ensures { as_located result fields.new ≡ located_at capture.now at fields.old }
@@ -92,9 +125,10 @@ pub fn locate(capture: &[u8], at: usize, fields: &mut [usize]) -> u8
     }
     let located = match found {
         Some(record) => {
+            let kind = u8::from(record.kind);
             let length = record.body.len();
             let start = record.next.saturating_sub(length);
-            [record.kind as usize, record.next, start, length]
+            [usize::from(kind), record.next, start, length]
         }
         None => [0, at, at, 0], // the end mark
     };

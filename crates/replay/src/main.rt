@@ -58,11 +58,10 @@ fn complain(rt: &impl Eprint, name: &str, why: impl Display + Drop) {
 
 // Where the record that begins at a place ends, or the place itself where none is whole and keeps the rules.
 fn record_end(bytes: &[u8], at: usize) -> usize {
-    let mut number = 0;
-    let mut kind = 0;
-    let mut next = 0;
-    capture::read(bytes, at, &mut number, &mut kind, &mut next);
-    next
+    match capture::read(bytes, at) {
+        Ok(Some(record)) => record.next,
+        _ => at,
+    }
 }
 
 // How long a window has to be that begins with these bytes, so that the records are played that are whole in them, and nothing behind
