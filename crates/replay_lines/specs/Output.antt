@@ -1,11 +1,6 @@
--- Text written in a list of bytes.
-use Rattle.std.specs.Prelude.{ℕ, ◌+◌, ◌≡◌, List, ◌++◌, cond, length, take, drop, leb}
+-- Text put behind what an output holds.
+use Rattle.std.specs.Prelude.{ℕ, ◌+◌, List, cond, length, leb}
 use Rattle.buffers.specs.Write.{over_from}
-
--- text written in front of a position, its end: it is from a start up to that end, and all else is as it was
-pub record Wrote (before after text : List ℕ) (start end : ℕ) : Type 0 where
-  pub ends : start + length text ≡ end
-  pub leaves : after ≡ take start before ++ text ++ drop end before
 
 -- an output, to which text is appended: its bytes, and how many of them are used
 pub record Output : Type 0 where
