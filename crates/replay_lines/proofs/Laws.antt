@@ -103,17 +103,6 @@ module _ {bytes before rest text : List ℕ} (front : List ℕ) (byte : ℕ) (la
   pub hex_more : Spelling hex_of bytes before front (hex_digit (byte / 16) ∷ hex_digit (byte % 16) ∷ text)
   hex_more = record { digits = hex_snoc front byte text ∙ rw (← last) spelling.digits }
 
--- Text behind what is there already: without room, and with it.
-module _ (out : List ℕ) (used : ℕ) (text : List ℕ) where
-  pub no_room : length out < used + length text → as_output out used ≡ appended (as_output out used) text
-  unfolding appended
-  no_room h = rw (lt-leb (used + length text) (length out) h)
-
-  pub has_room : used + length text ≤ length out
-      → as_output (back out used (filled text (lent out used))) (used + length text) ≡ appended (as_output out used) text
-  unfolding appended
-  has_room h = rw (le-leb (used + length text) (length out) h, put_back out text used h)
-
 pub echo_length : (echo : List ℕ) → length echo ≤ 8 → length (echo_text echo) ≤ 16
 echo_length [] h = omega arith
 echo_length (byte ∷ bytes) h = omega (arith, hex_length (byte ∷ bytes))

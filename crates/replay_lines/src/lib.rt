@@ -4,7 +4,8 @@
 ghost use Rattle.std.specs.Prelude.{◌≡◌, ℕ, ◌+◌, ◌*◌, ◌≤◌, ◌<◌, List, [], ◌∷◌, ◌++◌, length, take, drop};
 ghost use Rattle.replay_lines.specs.Digits.{decimal, hex_digit, hex_of};
 ghost use Rattle.replay_lines.specs.Lines.{echo_text, record_line, last_line};
-ghost use Rattle.replay_lines.specs.Output.{as_output, appended};
+ghost use Rattle.replay_lines.specs.Output.{appended};
+ghost use Rattle.replay_lines.specs.Held.{held};
 
 use session_state::Stage;
 use std::marker::Model;
@@ -142,39 +143,41 @@ fn line_of_stage(stage: Stage) -> Line
     line
 }
 
-// Puts text behind what is there already, or nothing where it has no room, and returns how many bytes are used then.
-fn append(out: &mut [u8], used: usize, text: &[u8]) -> usize
-    ensures { as_output out.new result ≡ appended (as_output out.old used) text.now }
-{
-    if out.len() < used {
-        return used;
-    }
-    if out.len() - used < text.len() {
-        return used;
-    }
-    buffers::fill(&mut out[used..], text);
-    used + text.len()
+// An output, to which text is appended, and how many of its bytes are used.
+#[derive(Drop)]
+pub struct Output<'a> {
+    pub bytes: &'a mut [u8],
+    pub used: usize,
 }
 
-// Appends a record's line, with the first `count` of eight bytes as its echo.
-pub fn record_line(
-    out: &mut [u8],
-    used: usize,
-    ordinal: u64,
-    answer: u8,
-    bytes: [u8; 8],
-    count: usize,
-) -> usize
-    ensures { as_output out.new result ≡ appended (as_output out.old used) (record_line ordinal answer (take count bytes)) }
-{
-    let line = line_of_record(ordinal, answer, &bytes[..count.min(8)]);
-    append(out, used, line.text())
-}
+impl Output<'_> {
+    // Puts text behind what is there already, or nothing where it has no room.
+    #[tactic(auto, unfolding(crate::specs::Output::appended))]
+    fn append(&mut self, text: &[u8])
+        ensures same { self.new.bytes.ghost_name ≡ self.old.bytes.ghost_name }
+        ensures text { held self.new ≡ appended (held self.old) text.now }
+    {
+        let bytes = &mut *self.bytes;
+        if self.used <= bytes.len() && text.len() <= bytes.len() - self.used {
+            bytes[self.used..self.used + text.len()].copy_from_slice(text);
+            self.used += text.len();
+        }
+    }
 
-// Appends the last line.
-pub fn last_line(out: &mut [u8], used: usize, stage: Stage) -> usize
-    ensures { as_output out.new result ≡ appended (as_output out.old used) (last_line stage) }
-{
-    let line = line_of_stage(stage);
-    append(out, used, line.text())
+    // Appends a record's line, with the first eight bytes of an echo.
+    pub fn record_line(&mut self, ordinal: u64, answer: u8, echo: &[u8])
+        ensures same { self.new.bytes.ghost_name ≡ self.old.bytes.ghost_name }
+        ensures text { held self.new ≡ appended (held self.old) (record_line ordinal answer (take 8 echo.now)) }
+    {
+        let shown = &echo[..echo.len().min(8)];
+        self.append(line_of_record(ordinal, answer, shown).text());
+    }
+
+    // Appends the last line.
+    pub fn last_line(&mut self, stage: Stage)
+        ensures same { self.new.bytes.ghost_name ≡ self.old.bytes.ghost_name }
+        ensures text { held self.new ≡ appended (held self.old) (last_line stage) }
+    {
+        self.append(line_of_stage(stage).text());
+    }
 }
