@@ -4,8 +4,7 @@
 ghost use Rattle.std.specs.Prelude.{◌≡◌, ℕ, ◌+◌, ◌*◌, ◌≤◌, ◌<◌, List, [], ◌∷◌, ◌++◌, length, take, drop};
 ghost use Rattle.replay_lines.specs.Digits.{decimal, hex_digit, hex_of};
 ghost use Rattle.replay_lines.specs.Lines.{echo_text, record_line, last_line};
-ghost use Rattle.replay_lines.specs.Output.{appended};
-ghost use Rattle.replay_lines.specs.Held.{held};
+ghost use Rattle.replay_lines.specs.Output.{as_output, appended};
 
 use session_state::Stage;
 use std::marker::Model;
@@ -143,41 +142,31 @@ fn line_of_stage(stage: Stage) -> Line
     line
 }
 
-// An output, to which text is appended, and how many of its bytes are used.
-#[derive(Drop)]
-pub struct Output<'a> {
-    pub bytes: &'a mut [u8],
-    pub used: usize,
+// Puts text behind what is there already, or nothing where it has no room, and returns how many bytes are used then. The output and that
+// number stay two parameters: in a struct with the reference, each function here and in `replay_window` would owe a clause that it keeps it.
+#[tactic(auto, unfolding(crate::specs::Output::appended))]
+fn append(out: &mut [u8], used: usize, text: &[u8]) -> usize
+    ensures { as_output out.new result ≡ appended (as_output out.old used) text.now }
+{
+    if out.len() < used || out.len() - used < text.len() {
+        return used;
+    }
+    let end = used + text.len();
+    out[used..end].copy_from_slice(text);
+    end
 }
 
-impl Output<'_> {
-    // Puts text behind what is there already, or nothing where it has no room.
-    #[tactic(auto, unfolding(crate::specs::Output::appended))]
-    fn append(&mut self, text: &[u8])
-        ensures same { self.new.bytes.ghost_name ≡ self.old.bytes.ghost_name }
-        ensures text { held self.new ≡ appended (held self.old) text.now }
-    {
-        let bytes = &mut *self.bytes;
-        if self.used <= bytes.len() && text.len() <= bytes.len() - self.used {
-            bytes[self.used..self.used + text.len()].copy_from_slice(text);
-            self.used += text.len();
-        }
-    }
+// Appends a record's line, with at most eight bytes of an echo.
+pub fn record_line(out: &mut [u8], used: usize, ordinal: u64, answer: u8, echo: &[u8]) -> usize
+    ensures { as_output out.new result ≡ appended (as_output out.old used) (record_line ordinal answer (take 8 echo.now)) }
+{
+    let shown = &echo[..echo.len().min(8)];
+    append(out, used, line_of_record(ordinal, answer, shown).text())
+}
 
-    // Appends a record's line, with the first eight bytes of an echo.
-    pub fn record_line(&mut self, ordinal: u64, answer: u8, echo: &[u8])
-        ensures same { self.new.bytes.ghost_name ≡ self.old.bytes.ghost_name }
-        ensures text { held self.new ≡ appended (held self.old) (record_line ordinal answer (take 8 echo.now)) }
-    {
-        let shown = &echo[..echo.len().min(8)];
-        self.append(line_of_record(ordinal, answer, shown).text());
-    }
-
-    // Appends the last line.
-    pub fn last_line(&mut self, stage: Stage)
-        ensures same { self.new.bytes.ghost_name ≡ self.old.bytes.ghost_name }
-        ensures text { held self.new ≡ appended (held self.old) (last_line stage) }
-    {
-        self.append(line_of_stage(stage).text());
-    }
+// Appends the last line.
+pub fn last_line(out: &mut [u8], used: usize, stage: Stage) -> usize
+    ensures { as_output out.new result ≡ appended (as_output out.old used) (last_line stage) }
+{
+    append(out, used, line_of_stage(stage).text())
 }
