@@ -11,8 +11,6 @@ use lib.Seq.{take_at, drop-append-add, drop-drop, length-take-le, append_snoc}
 use Rattle.std.proofs.Common.{mod-eq_of_lt}
 use Rattle.std.proofs.Math.Nat.{pow-succ'}
 use Rattle.octets.specs.Bytes.{word_bytes}
-use Rattle.buffers.specs.Write.{filled}
-use Rattle.buffers.proofs.Lending.{lent, back, put_back}
 use Rattle.session_state.specs.declared.Stage.{Stage}
 use Rattle.session_answers.specs.Answers.{refusal_number}
 use Rattle.replay_lines.specs.Digits.{ascii, last_digit, decimal_in, decimal, hex_digit, hex_of}

@@ -2,7 +2,7 @@
 // of the window is moved to its start.
 #![tactic(auto)]
 
-ghost use Rattle.std.specs.Prelude.{◌≡◌, true, false, ◌+◌, ◌-◌, ◌≤◌, ◌<◌, [], length};
+ghost use Rattle.std.specs.Prelude.{◌≡◌, true, false, ◌+◌, ◌-◌, ◌≤◌, ◌<◌, [], length, take};
 ghost use Rattle.session_answers.specs.Answers.{outcome_number};
 ghost use Rattle.replay_lines.specs.Lines.{record_line, last_line};
 ghost use Rattle.replay_lines.specs.Output.{as_output, appended};
@@ -13,7 +13,7 @@ ghost use Rattle.replay_window.specs.Windows.{ready_in, played_in, as_call_resul
 ghost use Rattle.replay_window.specs.Turns.{as_printed, printed_at, printed_of, turn_behind};
 
 use replay_record::{Handled, Progress};
-use session_answers::Answer;
+use session_answers::{Answer, Echo};
 use session_state::{Session, Stage};
 
 // How far a call is: the next position in the window, how much of the output is used, whether the text has ended, and the ordinal of
@@ -57,6 +57,15 @@ fn print_last(out: &mut [u8], used: usize, ordinal: u64, stage: Stage) -> Turn
     }
 }
 
+// The bytes of an echo, at most eight.
+fn echo_bytes(echo: &Echo) -> &[u8]
+    ensures value { result.now ≡ echo_bytes echo.now }
+    ensures short { take 8 (echo_bytes echo.now) ≡ echo_bytes echo.now }
+{
+    let shown = (echo.length as usize).min(8);
+    &echo.bytes[..shown]
+}
+
 // The line of a record that was answered.
 fn print_record(out: &mut [u8], used: usize, ordinal: u64, taken: usize, answer: Answer) -> Turn
     requires { ordinal < 0xFFFF_FFFF_FFFF_FFFF }
@@ -65,11 +74,10 @@ fn print_record(out: &mut [u8], used: usize, ordinal: u64, taken: usize, answer:
 {
     let outcome = answer.outcome;
     let echo = answer.echo;
-    let bytes = echo.bytes;
     let number = u8::from(outcome);
     Turn {
         at: taken,
-        used: replay_lines::record_line(out, used, ordinal, number, bytes, echo.length as usize),
+        used: replay_lines::record_line(out, used, ordinal, number, echo_bytes(&echo)),
         ended: false,
         ordinal: ordinal + 1,
     }
@@ -86,7 +94,7 @@ fn print_handled(handled: Handled, ordinal: u64, out: &mut [u8], used: usize) ->
     let session = result.session;
     let stage = session.stage;
     if handled.read != 0 {
-        let line_end = replay_lines::record_line(out, used, ordinal, handled.read, [0; 8], 0);
+        let line_end = replay_lines::record_line(out, used, ordinal, handled.read, &[]);
         return print_last(out, line_end, ordinal, stage);
     }
     if handled.kind == 0 {
