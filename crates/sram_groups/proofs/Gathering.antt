@@ -5,10 +5,12 @@ use mathlib.Core.Path.{◌≡◌, refl, sym, ap, ◌∙◌}
 use mathlib.Core.List.{List, [], ◌++◌, append_assoc}
 use mathlib.Core.Bool.{Bool, true, false, ◌&&◌}
 use borrow.Author.Tests.{leb-true, leb-false}
+use borrow.Rule.Slice.PartMut.{same_len_mid}
 use lib.Dec.{leb}
 use lib.ListN.{length, take, length-append, length-take}
 use lib.Seq.{take_at, drop_at, drop-drop, take-append-le, take-append-add}
-use Rattle.buffers.specs.Write.{over, over_from}
+use Rattle.buffers.specs.Write.{over, over_from, filled}
+use Rattle.buffers.proofs.Lending.{lent, put_back, filled-length}
 use Rattle.octets.proofs.Cases.{by_test}
 use Rattle.session_configuration.specs.declared.Configuration.{Configuration}
 use Rattle.sram.specs.Region.{right_size, in_range, stored, stored_in_range}
@@ -20,6 +22,12 @@ use Rattle.sram_groups.proofs.Laws.{zeros-length, zeros-take, zeros-drop, behind
 pub together-length : (count : ℕ) (held bytes : List ℕ) → length held ≡ 8 → length (take count held ++ bytes) ≡ min count 8 + length bytes
 together-length count held bytes eight =
     length-append (take count held) bytes ∙ omega (arith, rw eight at (length-take count held))
+
+-- bytes laid from a place on leave the length
+pub laid-length : (at : ℕ) (bytes list : List ℕ) → at + length bytes ≤ length list → length (over_from at bytes list) ≡ length list
+laid-length at bytes list room =
+    rw (← put_back list bytes at room)
+    (same_len_mid at (length list - at) list (filled bytes (lent list at)) (filled-length bytes (lent list at)))
 
 -- bytes laid from a place on, and more behind them
 pub gathered : (from all : ℕ) (x y : List ℕ) → from + length x + length y ≤ all
@@ -84,27 +92,33 @@ full_gathered last bytes room =
       ← behind-zeros last,
     )
 
--- what is written of bytes from an address on, which take up so many places of two groups
-module _ (last : Bool) (address : ℕ) (bytes : List ℕ) (many : ℕ) (all : many ≡ address % 8 + length bytes) where
+-- what is written of bytes held and more behind them, which take up so many places of two groups
+module _ (last : Bool) (address : ℕ) (held bytes : List ℕ) where
+  abbrev taken : ℕ
+  taken = address % 8 + length held + length bytes
+
   abbrev of_group : List ℕ
-  of_group = zeros (address % 8) ++ bytes
+  of_group = zeros (address % 8) ++ (held ++ bytes)
 
-  group_length : length of_group ≡ many
-  group_length = length-append (zeros (address % 8)) bytes ∙ rw (zeros-length (address % 8)) (sym all)
+  group_length : length of_group ≡ taken
+  group_length =
+      length-append (zeros (address % 8)) (held ++ bytes)
+      ∙ omega (arith, zeros-length (address % 8), length-append held bytes)
 
-  pub gathered_written : many ≤ 16 → take ((many + length (behind last)) / 8 * 8) (over of_group (zeros 16)) ≡ written last address bytes
+  pub gathered_written : taken ≤ 16
+      → take ((taken + length (behind last)) / 8 * 8) (over of_group (zeros 16)) ≡ written last address (held ++ bytes)
   unfolding written
   gathered_written room =
       ap (λ (n : ℕ). take ((n + length (behind last)) / 8 * 8) (over of_group (zeros 16))) (sym group_length)
       ∙ full_gathered last of_group (omega (arith, group_length))
-      ∙ rw (append_assoc (zeros (address % 8)) bytes (behind last))
+      ∙ rw (append_assoc (zeros (address % 8)) (held ++ bytes) (behind last))
 
   -- with no full group nothing is stored
-  pub none_written : (configuration : Configuration) (sram : List ℕ) → (many + length (behind last)) / 8 * 8 ≡ 0
-      → stored_in_range configuration sram (group_of address) (written last address bytes) ≡ sram
+  pub none_written : (configuration : Configuration) (sram : List ℕ) → (taken + length (behind last)) / 8 * 8 ≡ 0
+      → stored_in_range configuration sram (group_of address) (written last address (held ++ bytes)) ≡ sram
   unfolding stored_in_range
   none_written configuration sram none =
       let first = group_of address in
-      rw (written_none last address bytes (omega arith))
+      rw (written_none last address (held ++ bytes) (omega (arith, length-append held bytes)))
       (by_test (λ (l : List ℕ). l ≡ sram) (stored sram first []) sram (right_size configuration sram && in_range configuration first 0)
       (λ e. stored_none sram first) (λ e. refl))

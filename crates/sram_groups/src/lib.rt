@@ -2,20 +2,17 @@
 #![tactic(auto)]
 
 ghost use Rattle.std.specs.Prelude.{◌≡◌, ◌++◌, ◌+◌, ◌*◌, ◌/◌, ◌%◌, ◌≤◌, max, length, take};
-ghost use Rattle.buffers.specs.Write.{over, over_from};
+ghost use Rattle.buffers.specs.Write.{over};
 ghost use Rattle.sram.specs.Region.{stored_in_range};
 ghost use Rattle.sram_groups.specs.Groups.{group_of, held_count, zeros, behind, written, stored_within};
 
 use session_configuration::Configuration;
 
-// The later of two addresses.
-fn later(a: u32, b: u32) -> u32
-    ensures { result ≡ max a b }
+// The address from which bytes of a load are held.
+fn held_from(start: u32, next: u32) -> u32
+    ensures { result ≡ max start (group_of next) }
 {
-    if a < b {
-        return b;
-    }
-    a
+    start.max(next / 8 * 8)
 }
 
 // How many bytes of a load are held.
@@ -23,42 +20,32 @@ fn later(a: u32, b: u32) -> u32
 pub fn held_count(start: u32, next: u32) -> u8
     ensures { result ≡ held_count start next }
 {
-    let from = later(start, next / 8 * 8);
-    if from <= next {
-        return (next - from) as u8;
-    }
-    0
+    next.saturating_sub(held_from(start, next)) as u8
 }
 
 // How many bytes are written of so many from the beginning of a group on.
 #[tactic(auto, unfolding(crate::specs::Groups::zeros))]
 fn written_count(last: bool, many: usize) -> usize
     requires { many ≤ 16 }
-    ensures { result ≡ (many + length (behind «last»)) / 8 * 8 }
+    ensures count { result ≡ (many + length (behind «last»)) / 8 * 8 }
+    ensures within { result ≤ 16 }
 {
     if last {
-        return (many + 7) / 8 * 8;
+        many.next_multiple_of(8)
+    } else {
+        many / 8 * 8
     }
-    many / 8 * 8
-}
-
-// Two groups with bytes in them from a place on.
-fn put(groups: [u8; 16], at: usize, bytes: &[u8]) -> [u8; 16]
-    requires { at + length bytes.now ≤ 16 }
-    ensures { result ≡ over_from at bytes.now groups }
-{
-    let mut all = groups;
-    buffers::fill(&mut all[at..], bytes);
-    all
 }
 
 // Two groups of zeroes with the bytes held, and more behind them, from a place on.
-fn gather(from: usize, held: [u8; 8], count: usize, bytes: &[u8]) -> [u8; 16]
-    requires { (count ≤ 8) × (from + count + length bytes.now ≤ 16) }
-    ensures { result ≡ over (zeros from ++ (take count held ++ bytes.now)) (zeros 16) }
+fn gather(from: usize, held: &[u8], bytes: &[u8]) -> [u8; 16]
+    requires { from + length held.now + length bytes.now ≤ 16 }
+    ensures { result ≡ over (zeros from ++ (held.now ++ bytes.now)) (zeros 16) }
 {
-    let first = put([0; 16], from, &held[0..count]);
-    put(first, from + count, bytes)
+    let mut groups = [0; 16];
+    buffers::fill(&mut groups[from..], held);
+    buffers::fill(&mut groups[from + held.len()..], bytes);
+    groups
 }
 
 // Stores the groups that are full. A byte that fills none is not gathered.
@@ -66,19 +53,18 @@ fn store_full(
     configuration: Configuration,
     sram: &mut [u8],
     address: u32,
-    held: [u8; 8],
-    count: usize,
+    held: &[u8],
     bytes: &[u8],
     last: bool,
 )
-    requires { (count ≤ 8) × (address % 8 + count + length bytes.now ≤ 16) }
-    ensures { sram.new ≡ stored_in_range configuration sram.old (group_of address) (written «last» address (take count held ++ bytes.now)) }
+    requires { address % 8 + length held.now + length bytes.now ≤ 16 }
+    ensures { sram.new ≡ stored_in_range configuration sram.old (group_of address) (written «last» address (held.now ++ bytes.now)) }
 {
     let from = (address % 8) as usize;
-    let many = written_count(last, from + count + bytes.len());
+    let many = written_count(last, from + held.len() + bytes.len());
     if 0 < many {
-        let groups = gather(from, held, count, bytes);
-        sram::store(configuration, sram, address / 8 * 8, &groups[0..many]);
+        let groups = gather(from, held, bytes);
+        sram::store(configuration, sram, address / 8 * 8, &groups[..many]);
     }
 }
 
@@ -95,9 +81,9 @@ pub fn store(
 )
     ensures { sram.new ≡ stored_within configuration «last» sram.old address (take count held ++ bytes.now) }
 {
-    let few = octets::least(count as usize, 8);
+    let few = usize::from(count).min(8);
     let from = (address % 8) as usize;
     if bytes.len() <= 16 - (from + few) {
-        store_full(configuration, sram, address, held, few, bytes, last);
+        store_full(configuration, sram, address, &held[..few], bytes, last);
     }
 }
