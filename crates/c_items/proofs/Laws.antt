@@ -1,4 +1,5 @@
 -- What the calls for an item claim, where there are no places for an answer, where the item is refused and where it is answered.
+use Rattle.std.specs.Prelude.{Ok, Err, ⊤, Result as OkOrErr}
 use Prim.Native.Nat.{ℕ}
 use native.Mathlib.Omega.{arith}
 use mathlib.Core.Path.{◌≡◌, refl, sym, ap, ◌∙◌}
@@ -9,7 +10,6 @@ use Rattle.session_state.specs.declared.Session.{Session}
 use Rattle.session_items.specs.Items.{Item, well_formed}
 use Rattle.session_answers.specs.declared.Fault.{Fault}
 use Rattle.session_answers.specs.declared.Outcome.{Outcome}
-use Rattle.session_answers.specs.declared.Prechecked.{Prechecked}
 use Rattle.session_answers.specs.declared.StepResult.{StepResult}
 use Rattle.session_answers.specs.Answers.{Result, result_of, fault_number, outcome_number, precheck}
 use Rattle.session_answers.proofs.Laws.{precheck_passed, fault_some}
@@ -34,9 +34,9 @@ some_due : (session : Session) (sram : List ℕ) (formed : Bool) → item_preche
 unfolding item_precheck
 some_due session sram formed e = by (precheck session sram formed) e
   where
-    by : (first : Prechecked) → precheck_number first false ≡ 0 → ⊥
-    by Prechecked.Passed e = omega arith
-    by (Prechecked.Refused fault) e = fault_some fault e
+    by : (first : OkOrErr ⊤ Fault) → precheck_number first false ≡ 0 → ⊥
+    by (Ok passed) e = omega arith
+    by (Err fault) e = fault_some fault e
 
 module _ (bytes numbers sram : List ℕ) (item : Item) (answer : Flat) where
   pub unplaced : (number : ℕ) → answer_places answer ≡ false
@@ -60,11 +60,11 @@ module _ (bytes numbers sram : List ℕ) (item : Item) (answer : Flat) where
     unfolding item_reply item_precheck
     refused-claim fault is = by (precheck (session_in (as_flat bytes numbers)) sram (well_formed item)) refl
       where
-        by : (first : Prechecked) → precheck (session_in (as_flat bytes numbers)) sram (well_formed item) ≡ first
+        by : (first : OkOrErr ⊤ Fault) → precheck (session_in (as_flat bytes numbers)) sram (well_formed item) ≡ first
             → ItemClaim (as_flat bytes numbers) sram item answer (as_reply (outcome_number result.answer.outcome) (as_flat bytes numbers) after answer)
-        by Prechecked.Passed f =
+        by (Ok passed) f =
             absurd (rw (← same_outcome, is) at (answered (session_in (as_flat bytes numbers)) sram item f))
-        by (Prechecked.Refused due) f =
+        by (Err due) f =
             let next = e ∙ refused (session_in (as_flat bytes numbers)) sram item due f in
             record {
               equation =
@@ -80,9 +80,9 @@ module _ (bytes numbers sram : List ℕ) (item : Item) (answer : Flat) where
     unfolding item_reply item_precheck session_put answer_put
     answered-claim session written is put said = by (precheck (session_in (as_flat bytes numbers)) sram (well_formed item)) refl
       where
-        by : (first : Prechecked) → precheck (session_in (as_flat bytes numbers)) sram (well_formed item) ≡ first
+        by : (first : OkOrErr ⊤ Fault) → precheck (session_in (as_flat bytes numbers)) sram (well_formed item) ≡ first
             → ItemClaim (as_flat bytes numbers) sram item answer (as_reply (outcome_number result.answer.outcome) session after written)
-        by Prechecked.Passed f =
+        by (Ok passed) f =
             let ok = (precheck_passed (session_in (as_flat bytes numbers)) sram (well_formed item) f).0 in
             let placed = (sound_written bytes numbers ok.fine).placed in
             let left : session ≡ session_flat result.session = put.equation ∙ rw placed in
@@ -90,5 +90,5 @@ module _ (bytes numbers sram : List ℕ) (item : Item) (answer : Flat) where
               equation = rw (f, there, left, said, there) (ap leaves e);
               reads_back = λ placed. rw left (put.reads_back ∙ ap (λ (r : Result). r.session) e);
             }
-        by (Prechecked.Refused due) f =
+        by (Err due) f =
             absurd (rw (same_outcome, refused (session_in (as_flat bytes numbers)) sram item due f) at is)

@@ -5,25 +5,52 @@ ghost use Rattle.std.specs.Prelude.{◌≡◌, [], ◌∷◌};
 ghost use Rattle.session_items.specs.declared.Source.{Source};
 ghost use Rattle.session_items.specs.Items.{Item};
 ghost use Rattle.c_answer.specs.Writing.{as_flat};
-ghost use Rattle.c_items.specs.Calls.{as_reply, item_precheck, ItemClaim};
+ghost use Rattle.c_items.specs.Calls.{as_reply, due_number, number_or_none, item_precheck, ItemClaim};
 
-use session_answers::{Outcome, Prechecked};
+use session_answers::{Fault, Outcome};
 use session_items::Source;
 use session_state::Session;
 
-// What comes before an item or a list of them: 7, then 8, then 6, then 9 for an answer that has not its places; or 0.
+// Why a call for an item or a list of them is refused: for what is handed in, or for an answer that has not its places.
+#[derive(Clone, Copy)]
+pub enum Due {
+    Fault(Fault),
+    Places,
+}
+
+impl From<Fault> for Due {
+    ghost use Rattle.std.specs.Prelude.{◌≡◌};
+    ghost use Rattle.c_items.specs.declared.Due.{Due};
+
+    ghost from_gives = { λ fault due. due ≡ Due.Fault fault };
+
+    fn from(fault: Fault) -> Due {
+        Due::Fault(fault)
+    }
+}
+
+// The number that C is given.
+impl From<Due> for u8 {
+    ghost from_gives = { λ due number. number ≡ due_number due };
+
+    fn from(due: Due) -> u8 {
+        match due {
+            Due::Fault(fault) => fault.into(),
+            Due::Places => 9,
+        }
+    }
+}
+
+// What comes before an item or a list of them: 7, then 8, then 6, then 9 for an answer that has not its places.
 #[tactic(auto, unfolding(crate::specs::Calls::item_precheck))]
-pub fn item_precheck(session: Session, sram: &[u8], formed: bool, placed: bool) -> u8
-    ensures { result ≡ item_precheck session sram.now formed placed }
+pub fn item_precheck(session: Session, sram: &[u8], formed: bool, placed: bool) -> Result<(), Due>
+    ensures { number_or_none result ≡ item_precheck session sram.now formed placed }
 {
-    let first = session_answers::precheck(session, sram, formed);
-    if let Prechecked::Refused(fault) = first {
-        return session_answers::outcome_number(Outcome::Refused(fault));
+    session_answers::precheck(session, sram, formed)?;
+    if !placed {
+        return Err(Due::Places);
     }
-    if placed {
-        return 0;
-    }
-    9
+    Ok(())
 }
 
 // One item.
@@ -31,29 +58,28 @@ pub fn item(
     session_bytes: &mut [u8],
     session: &mut [u32],
     sram: &mut [u8],
-    source: Source,
-    bytes: &[u8],
+    item: &session_items::Item<'_>,
     echo: &mut [u8],
     answer: &mut [u32],
 ) -> u8
-    ensures { ItemClaim (as_flat session_bytes.old session.old) sram.old (Item.Of source bytes.now) (as_flat echo.old answer.old)
+    ensures { ItemClaim (as_flat session_bytes.old session.old) sram.old item.now (as_flat echo.old answer.old)
         (as_reply result (as_flat session_bytes.new session.new) sram.new (as_flat echo.new answer.new)) }
 {
     let read = c_session::read_session(session_bytes, session);
     if !c_answer::has_places(echo, answer) {
-        let formed = session_items::is_formed(source, bytes);
-        return item_precheck(read, sram, formed, false);
+        return match item_precheck(read, sram, item.is_formed(), false) {
+            Ok(()) => 0,
+            Err(due) => due.into(),
+        };
     }
-    let result = session::hand_in(read, sram, source, bytes);
+    let result = session::hand_in(read, sram, item);
     let given = result.answer;
-    let outcome = given.outcome;
-    if let Outcome::Refused(_) = outcome {
-        return session_answers::outcome_number(outcome);
+    if let Outcome::Refused(fault) = given.outcome {
+        return fault.into();
     }
-    let next = result.session;
-    c_session::put_session(session_bytes, session, next);
+    c_session::put_session(session_bytes, session, result.session);
     c_answer::put_answer(echo, answer, given);
-    session_answers::outcome_number(outcome)
+    given.outcome.into()
 }
 
 // One CAN frame.
@@ -69,15 +95,11 @@ pub fn frame(
     ensures { ItemClaim (as_flat session_bytes.old session.old) sram.old (Item.Of (Source.Can identifier) «data».now) (as_flat echo.old answer.old)
         (as_reply result (as_flat session_bytes.new session.new) sram.new (as_flat echo.new answer.new)) }
 {
-    item(
-        session_bytes,
-        session,
-        sram,
-        Source::Can(identifier),
-        data,
-        echo,
-        answer,
-    )
+    let frame = session_items::Item {
+        source: Source::Can(identifier),
+        bytes: data,
+    };
+    item(session_bytes, session, sram, &frame, echo, answer)
 }
 
 // One serial byte, which is faulty where the mark is not 0.
@@ -94,13 +116,9 @@ pub fn byte(
         (as_reply result (as_flat session_bytes.new session.new) sram.new (as_flat echo.new answer.new)) }
 {
     let bytes = [value];
-    item(
-        session_bytes,
-        session,
-        sram,
-        Source::Serial(mark),
-        &bytes[..],
-        echo,
-        answer,
-    )
+    let byte = session_items::Item {
+        source: Source::Serial(mark),
+        bytes: &bytes[..],
+    };
+    item(session_bytes, session, sram, &byte, echo, answer)
 }
