@@ -1,9 +1,11 @@
 -- The truck's side (02, E1): a load is begun, its items are asked for, and the echoes told.
-use Rattle.std.specs.Prelude.{ℕ, ◌+◌, List, [], Bool, true, false, cond, leb, replicate}
+use Rattle.std.specs.Prelude.{ℕ, ◌+◌, List, [], Bool, true, false, cond, leb, replicate, ⊤, Result, Ok, Err}
+use Rattle.std.specs.Result.{result_unwrap_or}
 use Rattle.session_configuration.specs.declared.Configuration.{Configuration}
 use Rattle.session_configuration.specs.declared.Entered.{Entered}
 use Rattle.session_state.specs.declared.Port.{Port}
-use Rattle.header.specs.declared.Validated.{Validated}
+use Rattle.session_state.specs.declared.Refusal.{Refusal}
+use Rattle.header.specs.declared.Header.{Header}
 use Rattle.header.specs.Reading.{validated}
 use Rattle.session_items.specs.declared.Source.{Source}
 use Rattle.session_answers.specs.Answers.{refusal_number}
@@ -13,30 +15,30 @@ use Rattle.sender_load.specs.declared.Sender.{Sender}
 use Rattle.sender_load.specs.declared.Sent.{Sent}
 use Rattle.sender_load.specs.Items.{width, sent_from, sent_at, standing, next_place, sound_load}
 use Rattle.sender_load.specs.Echoes.{echo_due}
-use Rattle.sender.specs.declared.AskResult.{AskResult}
-use Rattle.sender.specs.declared.AskAnswer.{AskAnswer}
-use Rattle.sender.specs.declared.BeginResult.{BeginResult}
-use Rattle.sender.specs.declared.BeginAnswer.{BeginAnswer}
-use Rattle.sender.specs.declared.TellResult.{TellResult}
-use Rattle.sender.specs.declared.TellAnswer.{TellAnswer}
+use Rattle.sender.specs.declared.Unheard.{Unheard}
 use Rattle.sender.specs.declared.Verdict.{Verdict}
 
 -- The numbers. Beginning: 0, or the number with which the head would answer the header, 3 or 4.
-abbrev pub begun_number : BeginAnswer → ℕ
-begun_number BeginAnswer.Goes = 0
-begun_number (BeginAnswer.Refused refusal) = refusal_number refusal
+abbrev pub begun_number : Result Sender Refusal → ℕ
+begun_number (Ok sender) = 0
+begun_number (Err refusal) = refusal_number refusal
 
--- asking: 1 with no load going, 8 for a load that is not sound
-abbrev pub asked_number : AskAnswer → ℕ
-asked_number AskAnswer.Gives = 0
-asked_number AskAnswer.Ignored = 1
-asked_number AskAnswer.Unsound = 8
+-- asking and telling: 0, or 1 where there is nothing to do, or 8 for a load that is not sound
+abbrev pub unheard_number : Unheard → ℕ
+unheard_number Unheard.Ignored = 1
+unheard_number Unheard.Unsound = 8
 
--- telling: 1 with no item out, 8 for a load that is not sound
-abbrev pub told_number : TellAnswer → ℕ
-told_number (TellAnswer.Says verdict) = 0
-told_number TellAnswer.Ignored = 1
-told_number TellAnswer.Unsound = 8
+abbrev pub answer_number : {A : Type 0} → Result A Unheard → ℕ
+answer_number (Ok given) = 0
+answer_number (Err unheard) = unheard_number unheard
+
+-- asking: 1 with no load going
+abbrev pub asked_number : Result Sent Unheard → ℕ
+asked_number answer = answer_number answer
+
+-- telling: 1 with no item out
+abbrev pub told_number : Result Verdict Unheard → ℕ
+told_number answer = answer_number answer
 
 -- Beginning. A load keeps its head's configuration as far as the truck knows it: the password that is sent. How serial boot was entered has no
 -- part in it.
@@ -71,54 +73,72 @@ idle =
       out = false;
     }
 
--- a load that the head would answer with 3 or 4 leaves none going; of the image only the length matters
-abbrev pub begun_if : Validated → Sender → BeginResult
-begun_if (Validated.Refused refusal) sender = record { answer = BeginAnswer.Refused refusal; sender = idle }
-begun_if (Validated.Fits header) sender = record { answer = BeginAnswer.Goes; sender = sender }
+-- a load that the head would answer with 3 or 4 is not begun; of the image only the length matters
+abbrev pub begun_if : Result Header Refusal → Sender → Result Sender Refusal
+begun_if (Err refusal) sender = Err refusal
+begun_if (Ok header) sender = Ok sender
 
-unfoldable pub load_begun : Port → ℕ → Bool → List ℕ → ℕ → BeginResult
+unfoldable pub load_begun : Port → ℕ → Bool → List ℕ → ℕ → Result Sender Refusal
 load_begun port start vle password length =
     begun_if (validated (head_with password) (header_meant start vle length)) (new_load port start vle password length)
 
--- Asking gives the item at the load's place, which is out then; asking again gives the same. Where none is given it has length 0.
+-- the sender that beginning leaves: where a load is refused none is going
+abbrev pub left_by : Result Sender Refusal → Sender
+left_by begun = result_unwrap_or begun idle
+
+-- what asking or telling says, and the sender after it
+pub record Reply (A : Type 0) : Type 0 where
+  pub answer : Result A Unheard
+  pub sender : Sender
+
+abbrev pub as_reply : {A : Type 0} → Result A Unheard → Sender → Reply A
+as_reply answer sender = record { answer = answer; sender = sender }
+
+-- The load and the image are looked at first: 1 with no load going, 8 for a load that is not sound.
+unfoldable pub heeded : Sender → List ℕ → Result ⊤ Unheard
+heeded sender image = cond sender.going (cond (sound_load sender image) (Ok tt) (Err Unheard.Unsound)) (Err Unheard.Ignored)
+
+-- Asking gives the item at the load's place, which is out then; asking again gives the same. Where none is given, what is sent has length 0.
 abbrev pub no_item : Sent
 no_item = sent_from (Source.Can 0) []
 
-abbrev pub gives : Sender → List ℕ → AskResult
-gives sender image =
-    record { answer = AskAnswer.Gives; sent = sent_at sender image; sender = standing sender sender.place true }
+abbrev pub sent_by : Result Sent Unheard → Sent
+sent_by answer = result_unwrap_or answer no_item
 
-abbrev pub gives_none : AskAnswer → Sender → AskResult
-gives_none answer sender = record { answer = answer; sent = no_item; sender = sender }
+abbrev pub gives : Sender → List ℕ → Reply Sent
+gives sender image = as_reply (Ok (sent_at sender image)) (standing sender sender.place true)
 
-unfoldable pub asked : Sender → List ℕ → AskResult
+abbrev pub gives_none : Unheard → Sender → Reply Sent
+gives_none unheard sender = as_reply (Err unheard) sender
+
+unfoldable pub asked : Sender → List ℕ → Reply Sent
 asked sender image =
     cond sender.going
     (cond (sound_load sender image)
     (gives sender image)
-    (gives_none AskAnswer.Unsound sender))
-    (gives_none AskAnswer.Ignored sender)
+    (gives_none Unheard.Unsound sender))
+    (gives_none Unheard.Ignored sender)
 
 -- Telling. The echo of the last item ends the load, that of another moves it on to the next item, and any other echo abandons it.
-abbrev pub tells : TellAnswer → Sender → TellResult
-tells answer sender = record { answer = answer; sender = sender }
+abbrev pub tells : Result Verdict Unheard → Sender → Reply Verdict
+tells answer sender = as_reply answer sender
 
 abbrev pub is_last : Sender → Bool
 is_last sender = leb (16 + sender.length) (sender.place + width sender.port)
 
-abbrev pub echo_told : Bool → Sender → TellResult
+abbrev pub echo_told : Bool → Sender → Reply Verdict
 echo_told right sender =
     cond right
-    (cond (is_last sender) (tells (TellAnswer.Says Verdict.Done) idle) (tells (TellAnswer.Says Verdict.GoesOn) (next_place sender)))
-    (tells (TellAnswer.Says Verdict.Abandoned) idle)
+    (cond (is_last sender) (tells (Ok Verdict.Done) idle) (tells (Ok Verdict.GoesOn) (next_place sender)))
+    (tells (Ok Verdict.Abandoned) idle)
 
 -- 8 comes before 1 with no item out
-unfoldable pub told : Sender → List ℕ → Port → ℕ → List ℕ → TellResult
+unfoldable pub told : Sender → List ℕ → Port → ℕ → List ℕ → Reply Verdict
 told sender image port identifier bytes =
     cond sender.going
     (cond (sound_load sender image)
     (cond sender.out
     (echo_told (is_echo sender.port (echo_due sender image) port identifier bytes) sender)
-    (tells TellAnswer.Ignored sender))
-    (tells TellAnswer.Unsound sender))
-    (tells TellAnswer.Ignored sender)
+    (tells (Err Unheard.Ignored) sender))
+    (tells (Err Unheard.Unsound) sender))
+    (tells (Err Unheard.Ignored) sender)
