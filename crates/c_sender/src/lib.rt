@@ -85,7 +85,7 @@ pub fn item_numbers(sent: Sent) -> [u32; ITEM_WIDTH]
     [
         c_session::port_number(source.into()),
         identifier_of(source),
-        c_answer::wide(sent.length),
+        u32::from(sent.length),
     ]
 }
 
