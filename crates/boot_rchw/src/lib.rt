@@ -29,19 +29,15 @@ fn look_in_turn(memory: &[u8], places: &[u32]) -> Search
     ensures { result ≡ searched memory.now 0 places.now }
 {
     let mut examined = 0;
+    let mut found = None;
     for &place in places {
         examined += 1;
         if is_good_place(memory, place) {
-            return Search {
-                found: Some(place),
-                examined,
-            };
+            found = Some(place);
+            break;
         }
     }
-    Search {
-        found: None,
-        examined,
-    }
+    Search { found, examined }
 }
 
 // The first good place of the flash.
