@@ -1,6 +1,7 @@
 -- What a record of a capture does (01, "The truck's capture file").
-use Rattle.std.specs.Prelude.{ℕ, List, cond, not, ◌&&◌, eqb}
-use Rattle.capture.specs.Records.{Read}
+use Rattle.std.specs.Prelude.{ℕ, List, cond, not, ◌&&◌, Option, Some, None, Ok, Err, Result as OkOrErr, eqb}
+use Rattle.capture.specs.declared.Damaged.{Damaged}
+use Rattle.capture.specs.Records.{kind_number, Read}
 use Rattle.session_state.specs.declared.Session.{Session}
 use Rattle.session_items.specs.Items.{item_in}
 use Rattle.session_answers.specs.declared.Outcome.{Outcome}
@@ -25,9 +26,22 @@ pub record Handling : Type 0 where
   pub taken : ℕ
   pub result : Result
 
-abbrev pub as_handling : Handled → List ℕ → Handling
-as_handling handled sram =
-    record { read = handled.read; kind = handled.kind; taken = handled.taken; result = result_of handled.result sram }
+-- of the end mark and of a bad record, with the session and SRAM as they are
+abbrev pub unhandled : ℕ → Session → List ℕ → Handling
+unhandled read session sram =
+    record { read = read; kind = 0; taken = 0; result = unchanged Outcome.Ignored session sram }
+
+-- of the result of a call on a session, with SRAM after it
+abbrev pub as_handling : Session → OkOrErr (Option Handled) Damaged → List ℕ → Handling
+as_handling session (Err damaged) sram = unhandled 10 session sram
+as_handling session (Ok None) sram = unhandled 0 session sram
+as_handling session (Ok (Some handled)) sram =
+    record {
+      read = 0;
+      kind = kind_number handled.record.kind;
+      taken = handled.record.next;
+      result = result_of handled.result sram;
+    }
 
 -- of a record found at 0: a bad one and the end mark are not handed to the session, which stays as it is, and `result` is not printed then
 unfoldable pub handling_of : Session → List ℕ → Read → Handling

@@ -3,12 +3,14 @@
 #![tactic(auto)]
 
 ghost use Rattle.std.specs.Prelude.{◌≡◌};
-ghost use Rattle.capture.specs.Records.{found};
+ghost use Rattle.capture.specs.Records.{kind_number, found};
 ghost use Rattle.session_answers.specs.Answers.{result_of};
 ghost use Rattle.replay_record.specs.Beginning.{beginning, first_progress};
 ghost use Rattle.replay_record.specs.Handling.{record_step, as_handling, handling_of};
 
+use capture::{Damaged, Kind, Record};
 use session_answers::{Outcome, StepResult};
+use session_items::Item;
 use session_state::Session;
 
 // How far the program is between two windows of a capture: how much of the output is text, how many bytes of the window are unread,
@@ -43,51 +45,42 @@ pub fn zeroed_sram() -> [u8; 65536]
     [0; 65536]
 }
 
-// What the reader found of a record: the reader's number, its kind or the end mark, and how many bytes it has; and the result of its step.
+// A record that was read, and the result of its step.
 #[derive(Clone, Copy)]
-pub struct Handled {
-    pub read: u8,
-    pub kind: u8,
-    pub taken: usize,
+pub struct Handled<'a> {
+    pub record: Record<'a>,
     pub result: StepResult,
 }
 
-// A record of a kind, with its body.
-fn step_record(session: Session, sram: &mut [u8], kind: u8, body: &[u8]) -> StepResult
-    ensures { result_of result sram.new ≡ record_step session sram.old kind body.now }
+// The step of a record that was read.
+#[tactic(auto, unfolding(crate::specs::Handling::record_step))]
+fn step_record(session: Session, sram: &mut [u8], read: Record) -> StepResult
+    ensures { result_of result sram.new ≡ record_step session sram.old (kind_number read.entry.kind) read.entry.body.now }
 {
-    if kind == 4 {
+    if matches!(read.kind, Kind::Reset) {
         return session_answers::take_nothing(session_fresh::reset_session(), Outcome::Taken);
     }
-    let from = octets::least(session_items::leading_bytes(kind), body.len());
-    session::hand_in(
-        session,
-        sram,
-        session_items::source_in(kind, body),
-        &body[from..],
-    )
+    let kind = u8::from(read.kind);
+    let from = session_items::leading_bytes(kind).min(read.body.len());
+    let item = Item {
+        source: session_items::source_in(kind, read.body),
+        bytes: &read.body[from..],
+    };
+    session::hand_in(session, sram, &item)
 }
 
 // Reads the record with which the bytes begin, and hands it to the session.
-pub fn handle(bytes: &[u8], session: Session, sram: &mut [u8]) -> Handled
-    ensures { as_handling result sram.new ≡ handling_of session sram.old (found 0 bytes.now) }
+#[tactic(auto, using(crate::proofs::Laws::handled_bad, crate::proofs::Laws::handled_end, crate::proofs::Laws::handled_record))]
+pub fn handle<'a>(
+    bytes: &'a [u8],
+    session: Session,
+    sram: &mut [u8],
+) -> Result<Option<Handled<'a>>, Damaged>
+    ensures { as_handling session result sram.new ≡ handling_of session sram.old (found 0 bytes.now) }
 {
-    let mut read = 0;
-    let mut kind = 0;
-    let mut taken = 0;
-    let body = capture::read(bytes, 0, &mut read, &mut kind, &mut taken);
-    if (read != 0) | (kind == 0) {
-        return Handled {
-            read: read,
-            kind: kind,
-            taken: taken,
-            result: session_answers::take_nothing(session, Outcome::Ignored),
-        };
-    }
-    Handled {
-        read: read,
-        kind: kind,
-        taken: taken,
-        result: step_record(session, sram, kind, body),
-    }
+    let Some(record) = capture::read(bytes, 0)? else {
+        return Ok(None);
+    };
+    let result = step_record(session, sram, record);
+    Ok(Some(Handled { record, result }))
 }
