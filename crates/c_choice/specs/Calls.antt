@@ -1,11 +1,10 @@
 -- What the boot choice, and the session that it gives, answer through the C interface, and what they leave in the lent outputs. A refused
 -- call writes nothing.
-use Rattle.std.specs.Prelude.{ℕ, List, cond, ◌&&◌, length, eqb, leb}
+use Rattle.std.specs.Prelude.{ℕ, List, Option, Some, None, cond, ◌&&◌, length, eqb, leb}
 use Rattle.octets.specs.Read.{first_eight}
-use Rattle.boot.specs.declared.Answer.{Answer}
 use Rattle.boot.specs.declared.Choice.{Choice}
 use Rattle.boot.specs.Choosing.{boot_choice, choice_number}
-use Rattle.session_fresh.specs.declared.Start.{Start}
+use Rattle.session_state.specs.declared.Session.{Session}
 use Rattle.session_fresh.specs.Fresh.{fresh_in}
 use Rattle.c_answer.specs.Writing.{Flat}
 use Rattle.c_session.specs.Writing.{session_flat, session_places}
@@ -21,18 +20,17 @@ abbrev pub as_choice_reply : ℕ → List ℕ → List ℕ → ChoiceReply
 as_choice_reply number fields password = record { number = number; fields = fields; password = password }
 
 -- what outputs of the right lengths hold after an answer
-abbrev pub fields_after : Answer → List ℕ → List ℕ
-fields_after Answer.Refused fields = fields
-fields_after (Answer.Boots boot) fields = boot_numbers boot
+abbrev pub fields_after : Option Choice → List ℕ → List ℕ
+fields_after None fields = fields
+fields_after (Some choice) fields = boot_numbers choice.boot
 
-abbrev pub password_after : Answer → List ℕ → List ℕ → List ℕ
-password_after Answer.Refused selected password = password
-password_after (Answer.Boots boot) selected password = selected
+abbrev pub password_after : Option Choice → List ℕ → List ℕ
+password_after None password = password
+password_after (Some choice) password = choice.password
 
-abbrev pub choice_leaves : Choice → List ℕ → List ℕ → ChoiceReply
+abbrev pub choice_leaves : Option Choice → List ℕ → List ℕ → ChoiceReply
 choice_leaves choice fields password =
-    as_choice_reply (choice_number choice.answer) (fields_after choice.answer fields)
-    (password_after choice.answer choice.password password)
+    as_choice_reply (choice_number choice) (fields_after choice fields) (password_after choice password)
 
 -- 8 numbers and 8 password bytes are written; outputs of another length get number 9
 unfoldable pub choice_answer : ℕ → List ℕ → List ℕ → List ℕ → List ℕ → List ℕ → ChoiceReply
@@ -50,9 +48,9 @@ abbrev pub as_fresh_reply : ℕ → Flat → FreshReply
 as_fresh_reply number session = record { number = number; session = session }
 
 -- what a fresh session leaves: only serial boot gives one
-abbrev pub fresh_leaves : Start → Flat → FreshReply
-fresh_leaves start session =
-    cond start.serial (as_fresh_reply 0 (session_flat start.session)) (as_fresh_reply 9 session)
+abbrev pub fresh_leaves : Option Session → Flat → FreshReply
+fresh_leaves None session = as_fresh_reply 9 session
+fresh_leaves (Some fresh) session = as_fresh_reply 0 (session_flat fresh)
 
 -- for the number of a way to boot; 9 for a number that no way has, a password of another length than 8, or a session that has not its places
 unfoldable pub session_reply : ℕ → List ℕ → Flat → FreshReply

@@ -6,9 +6,10 @@ ghost use Rattle.c_answer.specs.Writing.{as_flat};
 ghost use Rattle.c_choice.specs.Numbers.{mode_number, mode_of, boot_numbers};
 ghost use Rattle.c_choice.specs.Calls.{as_choice_reply, choice_leaves, choice_answer, as_fresh_reply, session_reply};
 
-use boot::{Answer, Boot, Choice, Mode};
+use boot::{Boot, Choice, Inputs, Mode};
 
 // The number of a way to boot, which `mode_of` reads as that way.
+// No From: the orphan rule lets only the crate of Mode have one, and the numbers are the C interface's.
 fn mode_number(mode: Mode) -> u32
     ensures { (result ≡ mode_number mode) × (mode_of result ≡ mode) }
 {
@@ -34,11 +35,10 @@ pub fn mode_of(number: u32) -> Mode
 fn boot_numbers(boot: Boot) -> [u32; 8]
     ensures { result ≡ boot_numbers boot }
 {
-    let mode = boot.mode;
     [
-        mode_number(mode),
+        mode_number(boot.mode),
         boot.place,
-        boot.examined as u32,
+        u32::from(boot.examined),
         boot.jump,
         c_answer::flag(boot.watchdog),
         c_answer::flag(boot.bus16),
@@ -48,18 +48,16 @@ fn boot_numbers(boot: Boot) -> [u32; 8]
 }
 
 // Writes a choice, where it is not refused, and returns its number.
-fn put_choice(fields: &mut [u32], password: &mut [u8], choice: Choice) -> u8
+#[tactic(auto, using(buffers::proofs::Lending::fill_whole))]
+fn put_choice(fields: &mut [u32], password: &mut [u8], choice: Option<Choice>) -> u8
     requires { (length fields.old ≡ 8) × (length password.old ≡ 8) }
     ensures { as_choice_reply result fields.new password.new ≡ choice_leaves choice fields.old password.old }
 {
-    let answer = choice.answer;
-    let Answer::Boots(boot) = answer else {
+    let Some(given) = choice else {
         return 9; // nothing is written
     };
-    let selected = choice.password;
-    let written = boot_numbers(boot);
-    buffers::fill_words(fields, &written[..]);
-    buffers::fill(password, &selected[..]);
+    buffers::fill(fields, &boot_numbers(given.boot));
+    buffers::fill(password, &given.password);
     0
 }
 
@@ -76,38 +74,30 @@ pub fn choose(
     ensures { as_choice_reply result fields.new password.new
         ≡ choice_answer bootcfg flash.now shadow.now external.now fields.old password.old }
 {
-    if fields.len() == 8 {
-        if password.len() == 8 {
-            return put_choice(
-                fields,
-                password,
-                boot::choose(bootcfg, flash, shadow, external),
-            );
-        }
+    let inputs = Inputs {
+        bootcfg,
+        flash,
+        shadow,
+        external,
+    };
+    if (fields.len() == 8) & (password.len() == 8) {
+        return put_choice(fields, password, inputs.choose());
     }
     9
 }
 
 // A fresh session, from the number of a way to boot and the password selected.
-#[tactic(auto, unfolding(crate::specs::Calls::session_reply))]
+#[tactic(auto, unfolding(crate::specs::Calls::session_reply, c_session::specs::Writing::session_put))]
 pub fn fresh(mode: u32, password: &[u8], session_bytes: &mut [u8], session: &mut [u32]) -> u8
     ensures { as_fresh_reply result (as_flat session_bytes.new session.new)
         ≡ session_reply mode password.now (as_flat session_bytes.old session.old) }
 {
-    if 4 < mode {
+    if 4 < mode || password.len() != 8 || !c_session::has_places(session_bytes, session) {
         return 9;
     }
-    if password.len() != 8 {
+    let Some(fresh) = session_fresh::fresh_in(mode_of(mode), octets::first_eight(password)) else {
         return 9;
-    }
-    if !c_session::has_places(session_bytes, session) {
-        return 9;
-    }
-    let start = session_fresh::fresh_in(mode_of(mode), octets::first_eight(password));
-    if start.serial {
-        let fresh = start.session;
-        c_session::put_session(session_bytes, session, fresh);
-        return 0;
-    }
-    9
+    };
+    c_session::put_session(session_bytes, session, fresh);
+    0
 }

@@ -6,7 +6,7 @@ ghost use Rattle.c_answer.specs.Writing.{as_flat};
 ghost use Rattle.c_rows.specs.Numbers.{row_numbers, table_numbers};
 ghost use Rattle.c_rows.specs.Calls.{as_rows_reply, rows_leave, choice_rows_reply, session_rows_reply};
 
-use mmu::{Mapping, Row};
+use mmu::{NoRows, Row};
 
 // The numbers of a row.
 fn row_numbers(row: Row) -> [u32; 8]
@@ -29,24 +29,20 @@ fn put_rows(out: &mut [u32], rows: [Row; 5])
     requires { length out.old ≡ 40 }
     ensures { out.new ≡ table_numbers rows }
 {
-    for i in 0..5 {
-        let row = rows[i];
-        let written = row_numbers(row);
-        let at = 8 * i;
-        buffers::fill_words(&mut out[at..], &written[..]);
+    for (i, row) in rows.iter().enumerate() {
+        buffers::fill(&mut out[8 * i..], &row_numbers(*row));
     }
 }
 
-// Writes a mapping, where it is not refused and the output has its length, and returns the number.
-fn put_mapping(rows: &mut [u32], mapping: Mapping) -> u8
+// Writes the rows, where they are not refused and the output has its length, and returns the number.
+fn put_mapping(rows: &mut [u32], mapping: Result<[Row; 5], NoRows>) -> u8
     ensures { as_rows_reply result rows.new ≡ rows_leave mapping rows.old }
 {
-    let number = mapping.number;
-    if number != 0 {
-        return number;
-    }
+    let found = match mapping {
+        Ok(found) => found,
+        Err(reason) => return u8::from(reason),
+    };
     if rows.len() == 40 {
-        let found = mapping.rows;
         put_rows(rows, found);
         return 0;
     }

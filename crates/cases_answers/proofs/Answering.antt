@@ -1,4 +1,5 @@
 -- The numbers that the rules give, row by row.
+use Rattle.std.specs.Prelude.{Ok, Err, Result as OkOrErr}
 use Prim.Native.Nat.{ℕ, ◌-◌}
 use native.Mathlib.Omega.{arith}
 use mathlib.Core.Path.{◌≡◌, refl, sym, ◌∙◌}
@@ -17,7 +18,7 @@ use Rattle.session_state.specs.declared.Session.{Session}
 use Rattle.session_state.specs.declared.Stage.{Stage}
 use Rattle.session_state.specs.Accepted.{accepted_vle}
 use Rattle.session_state.specs.Sound.{sound}
-use Rattle.header.specs.declared.Validated.{Validated}
+use Rattle.header.specs.declared.Header.{Header}
 use Rattle.header.specs.Reading.{header_read, announces_none, within, validated}
 use Rattle.session_items.specs.declared.Reaction.{Reaction}
 use Rattle.session_items.specs.declared.Role.{Role}
@@ -95,9 +96,9 @@ module _ (session : Session) where
     stage : stage_after next.outcome next.session.stage ≡ next.session.stage
     same : next.session.configuration ≡ session.configuration
 
-  begun_named : (port : Port) (v : Validated) → Named (begun session port v)
-  begun_named port (Validated.Refused refusal) = record { stage = refl; same = refl }
-  begun_named port (Validated.Fits header) = record { stage = refl; same = refl }
+  begun_named : (port : Port) (v : OkOrErr Header Refusal) → Named (begun session port v)
+  begun_named port (Err refusal) = record { stage = refl; same = refl }
+  begun_named port (Ok header) = record { stage = refl; same = refl }
 
   transition_named : (role : Role) (port : Port) (bytes : List ℕ) → Named (transition role session port bytes)
   unfolding transition password_received header_received checked loaded

@@ -1,4 +1,5 @@
 -- The run of a list against its plain list: what holds before each call, and what one call makes of it.
+use Rattle.std.specs.Prelude.{Ok, Err, Result as OkOrErr}
 use Prim.Native.Nat.{ℕ, ◌+◌, ◌-◌, ◌≤◌, ◌<◌}
 use native.Mathlib.Omega.{arith}
 use native.Mathlib.Nat.{min-le_left}
@@ -25,7 +26,6 @@ use Rattle.session_state.specs.Accepted.{accepted_vle}
 use Rattle.session_state.specs.Sound.{load_fits, count_fits}
 use Rattle.session_state.proofs.Laws.{load_fits_lem, sound_fits}
 use Rattle.header.specs.declared.Header.{Header}
-use Rattle.header.specs.declared.Validated.{Validated}
 use Rattle.header.specs.Reading.{header_read, announces_none, within, fits, validated}
 use Rattle.session_items.specs.declared.Reaction.{Reaction}
 use Rattle.session_items.specs.declared.Role.{Role}
@@ -391,11 +391,11 @@ module _
         let header = header_of all in
         let inside = within configuration header in
         let more = rest configuration (Stage.Data port (load_from header)) items in
-        let goes_on : Validated → Type 0 = λ v. Continues (begun session port v) in
-        by_test goes_on (Validated.Refused Refusal.Length) (cond inside (Validated.Fits header) (Validated.Refused Refusal.Range))
+        let goes_on : OkOrErr Header Refusal → Type 0 = λ v. Continues (begun session port v) in
+        by_test goes_on (Err Refusal.Length) (cond inside (Ok header) (Err Refusal.Range))
         (announces_none header)
         (λ e. stops_on Refusal.Length (unfit all more full passed shape (rw e)))
-        (λ e. by_test goes_on (Validated.Fits header) (Validated.Refused Refusal.Range) inside
+        (λ e. by_test goes_on (Ok header) (Err Refusal.Range) inside
         (λ f. enters_on (Stage.Data port (load_from header)) Outcome.Taken (password ++ all) refl (shape ∙ rw append_assoc)
         (record {
           header = all;

@@ -1,4 +1,5 @@
 -- A session that has opened takes no item of the other port, so a list and its stream run alike.
+use Rattle.std.specs.Prelude.{Ok, Err, Result as OkOrErr}
 use Prim.Native.Nat.{ℕ}
 use mathlib.Core.Path.{◌≡◌, refl, sym, subst, ap, ◌∙◌}
 use mathlib.Core.List.{List, [], ◌∷◌, ◌++◌, map}
@@ -14,7 +15,7 @@ use Rattle.session_state.specs.declared.Port.{Port}
 use Rattle.session_state.specs.declared.Refusal.{Refusal}
 use Rattle.session_state.specs.declared.Session.{Session}
 use Rattle.session_state.specs.declared.Stage.{Stage}
-use Rattle.header.specs.declared.Validated.{Validated}
+use Rattle.header.specs.declared.Header.{Header}
 use Rattle.header.specs.Reading.{header_read, validated}
 use Rattle.session_items.specs.declared.Reaction.{Reaction}
 use Rattle.session_items.specs.declared.Role.{Role}
@@ -75,9 +76,9 @@ module _ (port by : Port) (session : Session) (same : same_port port by ≡ true
       by_test (Opens port) (enters session (Stage.Header by) Outcome.Taken) (stops session Refusal.Password)
       (passes bytes session.configuration.password) (λ e. same) (λ e. refl)
 
-  begun-opens : (v : Validated) → Opens port (begun session by v)
-  begun-opens (Validated.Refused refusal) = refl
-  begun-opens (Validated.Fits header) = same
+  begun-opens : (v : OkOrErr Header Refusal) → Opens port (begun session by v)
+  begun-opens (Err refusal) = refl
+  begun-opens (Ok header) = same
 
   -- fewer than 8 password bytes come by serial alone
   holds_opens : (by' : Port) (bytes : List ℕ) → same_port port by' ≡ true → (by' ≡ Port.Can → length bytes ≡ 8)

@@ -10,5 +10,5 @@ loop-i-preserved c =
     let five : length a.rows ≡ 5 = search rules in
     let next : l.i < 5 = omega arith in
     let room : 8 * l.i + 8 ≤ length l.out = omega arith in
-    rw (c.fill_words.ensures, c.row_numbers-written.ensures, put_row l.out (8 * l.i) _ room)
+    rw (c.fill.ensures, c.row_numbers.ensures, put_row l.out (8 * l.i) _ room)
     (turn a.out.now a.rows l.i five _ l.out l.invariant next)

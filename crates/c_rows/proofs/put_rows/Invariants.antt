@@ -3,4 +3,4 @@ use Rattle.c_rows.proofs.Table.{Written}
 use Rattle.c_rows.proofs.put_rows.Given as goal
 
 abbrev pub invariant-loop-i : goal.invariant-loop-i
-invariant-loop-i l = Written l.fn.out l.rows l.i l.out
+invariant-loop-i l = Written l.fn.out l.fn.rows l.i l.out
