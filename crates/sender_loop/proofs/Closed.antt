@@ -6,13 +6,13 @@ use mathlib.Core.List.{List, map, map-map}
 use mathlib.Core.Bool.{Bool, true, not, and-eq-true_iff}
 use borrow.Author.Tests.{eqb-false, not-true}
 use lib.ListN.{length}
+use Rattle.std.specs.Prelude.{Ok}
 use Rattle.octets.proofs.Comparing.{same_own}
 use Rattle.password.specs.Passing.{legal, passes}
 use Rattle.session_configuration.specs.declared.Configuration.{Configuration}
 use Rattle.sram.specs.Region.{size, in_range}
 use Rattle.session_state.specs.declared.Port.{Port}
 use Rattle.header.specs.declared.Header.{Header}
-use Rattle.header.specs.declared.Validated.{Validated}
 use Rattle.header.specs.Reading.{announces_none, within, fits, validated}
 use Rattle.session_items.specs.Items.{Item}
 use Rattle.session_answers.specs.declared.Answer.{Answer}
@@ -27,8 +27,7 @@ use Rattle.sender_header.proofs.Laws.{written_reads}
 use Rattle.sender_load.specs.declared.Sender.{Sender}
 use Rattle.sender_load.specs.Items.{sent_at, item_of, along, item_count, items_of, at_item}
 use Rattle.sender_load.proofs.Laws.{fit_short}
-use Rattle.sender.specs.declared.BeginAnswer.{BeginAnswer}
-use Rattle.sender.specs.Calls.{head_with, new_load, load_begun}
+use Rattle.sender.specs.Calls.{head_with, new_load, load_begun, left_by}
 use Rattle.sender_loop.specs.Loop.{Turn, Loop, hearing, Line, Delivered, Amid, connected}
 use Rattle.sender_loop.proofs.Head.{head_at, sram_first}
 use Rattle.sender_loop.proofs.Items.{load_items_lem}
@@ -77,7 +76,7 @@ fit_inside : (configuration : Configuration) (header : Header) → fits configur
 fit_inside configuration header e = ((and-eq-true_iff (not (announces_none header)) (within configuration header)).0 e).1
 
 fit_judged : (configuration : Configuration) (header : Header) → fits configuration header ≡ true
-    → validated configuration header ≡ Validated.Fits header
+    → validated configuration header ≡ Ok header
 unfolding validated
 fit_judged configuration header e =
     let both = (and-eq-true_iff (not (announces_none header)) (within configuration header)).0 e in
@@ -122,7 +121,7 @@ module _
         reads = rw (written_reads configuration start vle (length image) short) (fit_judged configuration announced line.fit);
       }
 
-  pub begins : load_begun port start vle password (length image) ≡ record { answer = BeginAnswer.Goes; sender = load }
+  pub begins : load_begun port start vle password (length image) ≡ Ok load
   unfolding load_begun
   begins = rw (fit_judged (head_with password) announced own_fit)
 
@@ -172,12 +171,12 @@ module _
 
     -- among others, by demand 3: the stream alone ends as the loop does, and the sender goes by the echoes
     pub amid : length configuration.password ≡ 8 → (list : List Item) → stream_of list ≡ items_of load image
-        → Amid port image (load_begun port start vle password (length image)).sender list loop (ran (fresh_session configuration) sram list)
+        → Amid port image (left_by (load_begun port start vle password (length image))) list loop (ran (fresh_session configuration) sram list)
     amid eight list e =
         let merged = demand_three configuration sram list eight line.fine line.right in
         let alone = rw (load_items_lem load image line.eight ∙ sym e) at all in
         let answers = ap (map (λ (call : Call). call.answer)) merged.same_answers ∙ alone.same_answers in
-        let begun = (load_begun port start vle password (length image)).sender in
+        let begun = left_by (load_begun port start vle password (length image)) in
         record {
           same_answers = answers;
           same_side =

@@ -9,6 +9,7 @@ use borrow.Author.Tests.{lt-ltb, le-ltb, le-leb, eq-eqb, ne_eqb}
 use lib.Dec.{ltb, eqb}
 use lib.ListN.{length, take, drop, replicate, length-take, length-drop}
 use lib.Seq.{length-take-le, take_all, take-add, take-append_seam}
+use Rattle.std.specs.Prelude.{Ok}
 use Rattle.buffers.specs.Write.{over}
 use Rattle.password.specs.Passing.{passes}
 use Rattle.session_configuration.specs.declared.Configuration.{Configuration}
@@ -19,7 +20,6 @@ use Rattle.session_state.specs.declared.Port.{Port}
 use Rattle.session_state.specs.declared.Refusal.{Refusal}
 use Rattle.session_state.specs.declared.Session.{Session}
 use Rattle.session_state.specs.declared.Stage.{Stage}
-use Rattle.header.specs.declared.Validated.{Validated}
 use Rattle.header.specs.Reading.{header_read, validated}
 use Rattle.session_items.specs.declared.Reaction.{Reaction}
 use Rattle.session_items.specs.declared.Role.{Role}
@@ -326,7 +326,7 @@ module _ (configuration : Configuration) where
         (header-step place h (omega arith) ok Outcome.Taken (holding stage header (place - 8 + wide))
         (gathers_more stage stage header refl (place - 8) wide (read_header place) (omega arith)))
 
-    module _ (fit : validated configuration (header_read configuration header) ≡ Validated.Fits (load_header sender)) (some : 1 ≤ sender.length) where
+    module _ (fit : validated configuration (header_read configuration header) ≡ Ok (load_header sender)) (some : 1 ≤ sender.length) where
       pub header_last : (place : ℕ) → 8 ≤ place → place + wide ≡ 16 → Accepted (head_at place) sram
           → Steps (head_at place) sram (item_at sender image place) Outcome.Taken (echo_at sender image place) (head_at (place + wide)) sram
       unfolding header_received

@@ -7,13 +7,13 @@ use mathlib.Core.Bool.{true}
 use borrow.Author.Tests.{lt-ltb, le-leb, lt-leb, eqb-true, eq-eqb}
 use lib.ListN.{length, replicate}
 use lib.Seq.{take_all}
+use Rattle.std.specs.Prelude.{Ok, is_ok}
 use Rattle.password.specs.Passing.{passes}
 use Rattle.session_configuration.specs.declared.Configuration.{Configuration}
 use Rattle.sram.specs.Region.{right_size, in_range, stored}
 use Rattle.session_state.specs.declared.Port.{Port}
 use Rattle.session_state.specs.declared.Session.{Session}
 use Rattle.session_state.specs.declared.Stage.{Stage}
-use Rattle.header.specs.declared.Validated.{Validated}
 use Rattle.header.specs.Reading.{header_read, fits, validated}
 use Rattle.session_answers.specs.declared.Answer.{Answer}
 use Rattle.session_answers.specs.declared.Outcome.{Outcome}
@@ -23,8 +23,6 @@ use Rattle.sender_header.specs.Writing.{header_written}
 use Rattle.sender_load.specs.declared.Sender.{Sender}
 use Rattle.sender_load.specs.Items.{width, load_header, sent_at, item_of, along, at_item, sound_load}
 use Rattle.sender_load.specs.Echoes.{echo_due}
-use Rattle.sender.specs.declared.AskAnswer.{AskAnswer}
-use Rattle.sender.specs.declared.TellAnswer.{TellAnswer}
 use Rattle.sender.specs.declared.Verdict.{Verdict}
 use Rattle.sender.specs.Calls.{idle}
 use Rattle.sender_loop.specs.Loop.{Loop, looped, in_turns, holding_none, jump_to}
@@ -59,7 +57,7 @@ pub record Meant (configuration : Configuration) (sender : Sender) (image sram :
   pub some : 1 ≤ sender.length
   pub inside : in_range configuration (load_header sender).start.0 sender.length ≡ true
   pub reads : validated configuration (header_read configuration (header_written sender.configuration sender.start sender.vle sender.length))
-      ≡ Validated.Fits (load_header sender)
+      ≡ Ok (load_header sender)
 
 module _ (configuration : Configuration) (sender : Sender) (image sram : List ℕ) (meant : Meant configuration sender image sram) where
   abbrev pub wide : ℕ
@@ -125,12 +123,12 @@ module _ (configuration : Configuration) (sender : Sender) (image sram : List �
 
     -- The turns from a place on, and the run of their items.
     pub record Onward (count place : ℕ) (loop : Loop) (run : Run) : Type 0 where
-      pub gave : in_turns (λ turn. turn.given) loop ≡ replicate (suc count) AskAnswer.Gives
+      pub gave : in_turns (λ turn. is_ok turn.given) loop ≡ replicate (suc count) true
       pub items : in_turns (λ turn. turn.sent) loop ≡ along (λ s. sent_at s image) (suc count) (at sender place)
       pub echoed : in_turns (λ turn. turn.answer.echo) loop ≡ along (λ s. echo_due s image) (suc count) (at sender place)
       pub answered : in_turns (λ turn. turn.answer.outcome) loop
           ≡ replicate count Outcome.Taken ++ Outcome.Jumps (jump_to sender) ∷ []
-      pub said : in_turns (λ turn. turn.said) loop ≡ replicate count (TellAnswer.Says Verdict.GoesOn) ++ TellAnswer.Says Verdict.Done ∷ []
+      pub said : in_turns (λ turn. turn.said) loop ≡ replicate count (Ok Verdict.GoesOn) ++ Ok Verdict.Done ∷ []
       pub idles : loop.sender ≡ idle
       pub jumped : loop.session ≡ holding_none configuration (Stage.Jumped (jump_to sender))
       pub loaded : loop.sram ≡ stored sram (load_header sender).start.0 image
@@ -151,7 +149,7 @@ module _ (configuration : Configuration) (sender : Sender) (image sram : List �
         let steps = last place e h reached ok in
         let ends = turn_last sender image meant.going place (sound_at_lem place e h) steps (le-leb (16 + sender.length) (place + wide) reached) in
         record {
-          gave = ap (in_turns (λ turn. turn.given)) ends;
+          gave = ap (in_turns (λ turn. is_ok turn.given)) ends;
           items = ap (in_turns (λ turn. turn.sent)) ends;
           echoed = ap (in_turns (λ turn. turn.answer.echo)) ends;
           answered = ap (in_turns (λ turn. turn.answer.outcome)) ends;
@@ -171,11 +169,11 @@ module _ (configuration : Configuration) (sender : Sender) (image sram : List �
         let rest = onwards count (place + wide) reached.1 (next-item sender.port place e) reached.0 steps.ok in
         let answer : Answer = record { outcome = Outcome.Taken; echo = echo_at sender image place } in
         record {
-          gave = ap (in_turns (λ turn. turn.given)) goes ∙ ap (λ l. AskAnswer.Gives ∷ l) rest.gave;
+          gave = ap (in_turns (λ turn. is_ok turn.given)) goes ∙ ap (λ l. true ∷ l) rest.gave;
           items = ap (in_turns (λ turn. turn.sent)) goes ∙ ap (λ l. sent_at (at sender place) image ∷ l) rest.items;
           echoed = ap (in_turns (λ turn. turn.answer.echo)) goes ∙ ap (λ l. echo_at sender image place ∷ l) rest.echoed;
           answered = ap (in_turns (λ turn. turn.answer.outcome)) goes ∙ ap (λ l. Outcome.Taken ∷ l) rest.answered;
-          said = ap (in_turns (λ turn. turn.said)) goes ∙ ap (λ l. TellAnswer.Says Verdict.GoesOn ∷ l) rest.said;
+          said = ap (in_turns (λ turn. turn.said)) goes ∙ ap (λ l. Ok Verdict.GoesOn ∷ l) rest.said;
           idles = ap (λ loop. loop.sender) goes ∙ rest.idles;
           jumped = ap (λ loop. loop.session) goes ∙ rest.jumped;
           loaded = ap (λ loop. loop.sram) goes ∙ rest.loaded;

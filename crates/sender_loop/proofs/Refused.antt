@@ -7,6 +7,7 @@ use mathlib.Core.Bool.{Bool, true, false, and-eq-true_iff}
 use borrow.Author.Tests.{lt-leb}
 use lib.ListN.{length, take, drop, replicate}
 use lib.Seq.{append_snoc, take-append_seam}
+use Rattle.std.specs.Prelude.{Ok, is_ok}
 use Rattle.octets.specs.Same.{same}
 use Rattle.octets.proofs.Cases.{untrue}
 use Rattle.octets.proofs.Comparing.{same_equal}
@@ -32,8 +33,6 @@ use Rattle.sender_load.specs.declared.Sender.{Sender}
 use Rattle.sender_load.specs.Items.{width, source_by, sent_at, item_of, along, item_count, at_item}
 use Rattle.sender_load.specs.Echoes.{echo_due}
 use Rattle.sender_load.proofs.Laws.{few_bytes}
-use Rattle.sender.specs.declared.AskAnswer.{AskAnswer}
-use Rattle.sender.specs.declared.TellAnswer.{TellAnswer}
 use Rattle.sender.specs.declared.Verdict.{Verdict}
 use Rattle.sender.specs.Calls.{idle, new_load}
 use Rattle.sender_loop.specs.Loop.{Loop, looped, in_turns, holding_none, password_items, TurnedAway, Line, connected}
@@ -92,14 +91,14 @@ module _
 
   -- the turns of the password from a place on, and one more
   record SentAway (count place : ℕ) (loop : Loop) : Type 0 where
-    gave : in_turns (λ turn. turn.given) loop ≡ replicate (suc (suc count)) AskAnswer.Gives
+    gave : in_turns (λ turn. is_ok turn.given) loop ≡ replicate (suc (suc count)) true
     items : in_turns (λ turn. turn.sent) loop ≡ along (λ s. sent_at s image) (suc (suc count)) (at sender place)
     answered : in_turns (λ turn. turn.answer.outcome) loop
         ≡ replicate count Outcome.Taken ++ Outcome.Stops Refusal.Password ∷ Outcome.Ignored ∷ []
     echoed : in_turns (λ turn. turn.answer.echo) loop
         ≡ along (λ s. echo_due s image) (suc count) (at sender place) ++ no_echo ∷ []
     said : in_turns (λ turn. turn.said) loop
-        ≡ replicate (suc count) (TellAnswer.Says Verdict.GoesOn) ++ TellAnswer.Says Verdict.Abandoned ∷ []
+        ≡ replicate (suc count) (Ok Verdict.GoesOn) ++ Ok Verdict.Abandoned ∷ []
     idles : loop.sender ≡ idle
     stops : loop.session ≡ stopped
     untouched : loop.sram ≡ sram
@@ -119,8 +118,8 @@ module _
       let stop = Outcome.Stops Refusal.Password in
       record {
         gave =
-            ap (in_turns (λ turn. turn.given)) goes
-            ∙ ap (λ (l : Loop). AskAnswer.Gives ∷ in_turns (λ turn. turn.given) l) tail;
+            ap (in_turns (λ turn. is_ok turn.given)) goes
+            ∙ ap (λ (l : Loop). true ∷ in_turns (λ turn. is_ok turn.given) l) tail;
         items =
             ap (in_turns (λ turn. turn.sent)) goes
             ∙ ap (λ (l : Loop). sent_at (at sender place) image ∷ in_turns (λ turn. turn.sent) l) tail
@@ -133,7 +132,7 @@ module _
             ∙ ap (λ (l : Loop). echo_at sender image place ∷ in_turns (λ turn. turn.answer.echo) l) tail;
         said =
             ap (in_turns (λ turn. turn.said)) goes
-            ∙ ap (λ (l : Loop). TellAnswer.Says Verdict.GoesOn ∷ in_turns (λ turn. turn.said) l) tail;
+            ∙ ap (λ (l : Loop). Ok Verdict.GoesOn ∷ in_turns (λ turn. turn.said) l) tail;
         idles = ap (λ loop. loop.sender) goes ∙ ap (λ loop. loop.sender) tail;
         stops = ap (λ loop. loop.session) goes ∙ ap (λ loop. loop.session) tail;
         untouched = ap (λ loop. loop.sram) goes ∙ ap (λ loop. loop.sram) tail;
@@ -145,12 +144,12 @@ module _
       (lt-leb (16 + sender.length) (place + wide) (omega arith)) in
       let later = away count (place + wide) rest.1 (next-item sender.port place e) steps.ok in
       record {
-        gave = ap (in_turns (λ turn. turn.given)) goes ∙ ap (λ l. AskAnswer.Gives ∷ l) later.gave;
+        gave = ap (in_turns (λ turn. is_ok turn.given)) goes ∙ ap (λ l. true ∷ l) later.gave;
         items = ap (in_turns (λ turn. turn.sent)) goes ∙ ap (λ l. sent_at (at sender place) image ∷ l) later.items;
         answered = ap (in_turns (λ turn. turn.answer.outcome)) goes ∙ ap (λ l. Outcome.Taken ∷ l) later.answered;
         echoed =
             ap (in_turns (λ turn. turn.answer.echo)) goes ∙ ap (λ l. echo_at sender image place ∷ l) later.echoed;
-        said = ap (in_turns (λ turn. turn.said)) goes ∙ ap (λ l. TellAnswer.Says Verdict.GoesOn ∷ l) later.said;
+        said = ap (in_turns (λ turn. turn.said)) goes ∙ ap (λ l. Ok Verdict.GoesOn ∷ l) later.said;
         idles = ap (λ loop. loop.sender) goes ∙ later.idles;
         stops = ap (λ loop. loop.session) goes ∙ later.stops;
         untouched = ap (λ loop. loop.sram) goes ∙ later.untouched;

@@ -6,6 +6,7 @@ use mathlib.Core.Bool.{Bool, true, false, cond}
 use borrow.Author.Tests.{ltb-true, ltb-false, eq-eqb}
 use lib.Dec.{ltb}
 use lib.ListN.{take}
+use Rattle.std.specs.Prelude.{Result, Ok}
 use Rattle.octets.proofs.Comparing.{same_own}
 use Rattle.session_state.specs.declared.Port.{Port}
 use Rattle.session_state.specs.declared.Session.{Session}
@@ -16,13 +17,12 @@ use Rattle.session_answers.specs.Answers.{without_echo, unchanged}
 use Rattle.session.specs.Rules.{step}
 use Rattle.sender_echo.specs.Hearing.{is_echo}
 use Rattle.sender_load.specs.declared.Sender.{Sender}
+use Rattle.sender_load.specs.declared.Sent.{Sent}
 use Rattle.sender_load.specs.Items.{width, role_at, part, sent_at, item_of, standing, next_place, sound_load}
 use Rattle.sender_load.specs.Echoes.{echo_due}
-use Rattle.sender.specs.declared.AskAnswer.{AskAnswer}
-use Rattle.sender.specs.declared.AskResult.{AskResult}
-use Rattle.sender.specs.declared.TellAnswer.{TellAnswer}
+use Rattle.sender.specs.declared.Unheard.{Unheard}
 use Rattle.sender.specs.declared.Verdict.{Verdict}
-use Rattle.sender.specs.Calls.{idle, gives, gives_none, asked, tells, is_last, told}
+use Rattle.sender.specs.Calls.{idle, Reply, sent_by, gives, gives_none, asked, tells, is_last, told}
 use Rattle.sender_loop.specs.Loop.{Turn, told_back, then_turns, looped, Side, hearing, in_turns}
 use Rattle.sender_loop.proofs.Head.{Steps, at, item_at, echo_at}
 
@@ -68,18 +68,18 @@ asks_again sender image = either sender.going (sound_load sender image) refl ref
         → sound_load sender image ≡ s
         → asked (asked sender image).sender image ≡ asked sender image
     either false s e f =
-        let first : asked sender image ≡ gives_none AskAnswer.Ignored sender = rw e in
-        ap (λ (r : AskResult). asked r.sender image) first
+        let first : asked sender image ≡ gives_none Unheard.Ignored sender = rw e in
+        ap (λ (r : Reply Sent). asked r.sender image) first
     either true false e f =
-        let first : asked sender image ≡ gives_none AskAnswer.Unsound sender = rw (f, e) in
-        ap (λ (r : AskResult). asked r.sender image) first
+        let first : asked sender image ≡ gives_none Unheard.Unsound sender = rw (f, e) in
+        ap (λ (r : Reply Sent). asked r.sender image) first
     either true true e f =
         let first : asked sender image ≡ gives sender image = rw (f, e) in
         let out = sender.out in
         let role = role_at sender in
         let second : asked (gives sender image).sender image ≡ gives sender image =
         rw (sound_out sender image sender.place out, f, part_out sender image sender.place out role, e) in
-        ap (λ (r : AskResult). asked r.sender image) first ∙ second ∙ sym first
+        ap (λ (r : Reply Sent). asked r.sender image) first ∙ second ∙ sym first
 
 module _ (sender : Sender) (image : List ℕ) (going : sender.going ≡ true) where
   module _ (place : ℕ) (sound : sound_load (at sender place) image ≡ true) where
@@ -89,14 +89,14 @@ module _ (sender : Sender) (image : List ℕ) (going : sender.going ≡ true) wh
 
     tells_other : (identifier : ℕ) (bytes : List ℕ)
         → is_echo sender.port (echo_at sender image place) sender.port identifier bytes ≡ false
-        → told (standing sender place true) image sender.port identifier bytes ≡ tells (TellAnswer.Says Verdict.Abandoned) idle
+        → told (standing sender place true) image sender.port identifier bytes ≡ tells (Ok Verdict.Abandoned) idle
     unfolding told
     tells_other identifier bytes e = rw (sound_out sender image place false, sound, echo_out sender image place false, e, going)
 
     tells-right : (last : Bool) → is_last (at sender place) ≡ last
         → let echo = echo_at sender image place in
         told (standing sender place true) image sender.port echo.identifier (take echo.length echo.bytes)
-        ≡ cond last (tells (TellAnswer.Says Verdict.Done) idle) (tells (TellAnswer.Says Verdict.GoesOn) (next_place (at sender place)))
+        ≡ cond last (tells (Ok Verdict.Done) idle) (tells (Ok Verdict.GoesOn) (next_place (at sender place)))
     unfolding told
     tells-right last e =
         let echo = echo_at sender image place in
@@ -106,10 +106,10 @@ module _ (sender : Sender) (image : List ℕ) (going : sender.going ≡ true) wh
     module _
         {session after : Session} {m stores : List ℕ} {outcome : Outcome}
         (steps : Steps session m (item_at sender image place) outcome (echo_at sender image place) after stores) where
-      abbrev turn : TellAnswer → Turn
+      abbrev turn : Result Verdict Unheard → Turn
       turn told =
           record {
-            given = AskAnswer.Gives;
+            given = Ok (sent_at (at sender place) image);
             sent = sent_at (at sender place) image;
             answer = record { outcome = outcome; echo = echo_at sender image place };
             said = told;
@@ -117,14 +117,14 @@ module _ (sender : Sender) (image : List ℕ) (going : sender.going ≡ true) wh
 
       pub turn_more : (count : ℕ) → is_last (at sender place) ≡ false
           → looped (suc count) sender.port image (at sender place) session m
-          ≡ then_turns (turn (TellAnswer.Says Verdict.GoesOn))
+          ≡ then_turns (turn (Ok Verdict.GoesOn))
           (looped count sender.port image (at sender (place + width sender.port)) after stores)
       unfolding looped
       turn_more count e = rw (asks, steps.made, tells-right false e)
 
       pub turn_last : is_last (at sender place) ≡ true
           → looped (suc zero) sender.port image (at sender place) session m
-          ≡ record { turns = turn (TellAnswer.Says Verdict.Done) ∷ []; sender = idle; session = after; sram = stores }
+          ≡ record { turns = turn (Ok Verdict.Done) ∷ []; sender = idle; session = after; sram = stores }
       unfolding looped
       turn_last e = rw (asks, steps.made, tells-right true e)
 
@@ -135,10 +135,10 @@ module _ (sender : Sender) (image : List ℕ) (going : sender.going ≡ true) wh
         ≡ record {
           turns =
               record {
-                given = AskAnswer.Gives;
+                given = Ok (sent_at (at sender place) image);
                 sent = sent_at (at sender place) image;
                 answer = without_echo Outcome.Ignored;
-                said = TellAnswer.Says Verdict.Abandoned;
+                said = Ok Verdict.Abandoned;
               }
               ∷ [];
           sender = idle;
@@ -157,7 +157,7 @@ unfolding hearing looped
 own_side zero port image sender session sram = refl
 own_side (suc count) port image sender session sram =
     let asks = asked sender image in
-    let head = step session sram (item_of asks.sent) in
+    let head = step session sram (item_of (sent_by asks.answer)) in
     let tells = told_back asks.sender image port head.answer.echo in
-    ap (λ (rest : Side). record { sent = asks.sent ∷ rest.sent; said = tells.answer ∷ rest.said; sender = rest.sender })
+    ap (λ (rest : Side). record { sent = sent_by asks.answer ∷ rest.sent; said = tells.answer ∷ rest.said; sender = rest.sender })
     (own_side count port image tells.sender head.session head.sram)

@@ -1,7 +1,7 @@
 -- The closed loop (02, E1): a sender and a head on a clean line. It rests on the calls of the sender (crates/sender/specs/Calls.antt), on the
 -- step of the session and the run of a list (crates/session/specs: Rules.antt, Running.antt), and on bytes stored in SRAM
 -- (crates/sram/specs/Region.antt).
-use Rattle.std.specs.Prelude.{ℕ, zero, suc, ◌-◌, ◌≡◌, List, [], ◌∷◌, ◌++◌, map, Bool, true, false, cond, not, length, take, replicate}
+use Rattle.std.specs.Prelude.{ℕ, zero, suc, ◌-◌, ◌≡◌, List, [], ◌∷◌, ◌++◌, map, Bool, true, false, cond, not, length, take, replicate, Ok, is_ok, Result as OkOrErr}
 use Rattle.password.specs.Passing.{legal, passes}
 use Rattle.session_configuration.specs.declared.Configuration.{Configuration}
 use Rattle.sram.specs.Region.{right_size, stored}
@@ -26,20 +26,16 @@ use Rattle.sender_load.specs.declared.Sender.{Sender}
 use Rattle.sender_load.specs.declared.Sent.{Sent}
 use Rattle.sender_load.specs.Items.{load_header, whole_load, sent_at, item_of, along, item_count, items_of, beginning_at, begins_item}
 use Rattle.sender_load.specs.Echoes.{echo_due, echoes_of}
-use Rattle.sender.specs.declared.AskResult.{AskResult}
-use Rattle.sender.specs.declared.BeginAnswer.{BeginAnswer}
-use Rattle.sender.specs.declared.AskAnswer.{AskAnswer}
-use Rattle.sender.specs.declared.TellResult.{TellResult}
-use Rattle.sender.specs.declared.TellAnswer.{TellAnswer}
+use Rattle.sender.specs.declared.Unheard.{Unheard}
 use Rattle.sender.specs.declared.Verdict.{Verdict}
-use Rattle.sender.specs.Calls.{new_load, idle, load_begun, asked, told}
+use Rattle.sender.specs.Calls.{new_load, idle, load_begun, left_by, Reply, sent_by, asked, told}
 
 -- a turn: what the sender said when asked, and the item; what the head answered; and what the sender said when told
 pub record Turn : Type 0 where
-  pub given : AskAnswer
+  pub given : OkOrErr Sent Unheard
   pub sent : Sent
   pub answer : Answer
-  pub said : TellAnswer
+  pub said : OkOrErr Verdict Unheard
 
 -- several turns, and the sender, the session and SRAM that the last one leaves
 pub record Loop : Type 0 where
@@ -49,7 +45,7 @@ pub record Loop : Type 0 where
   pub sram : List ℕ
 
 -- the sender is told what the head echoes, at the port by which they are connected
-abbrev pub told_back : Sender → List ℕ → Port → Echo → TellResult
+abbrev pub told_back : Sender → List ℕ → Port → Echo → Reply Verdict
 told_back sender image port echo = told sender image port echo.identifier (take echo.length echo.bytes)
 
 abbrev pub then_turns : Turn → Loop → Loop
@@ -61,27 +57,27 @@ unfoldable pub looped : ℕ → Port → List ℕ → Sender → Session → Lis
 looped zero port image sender session sram =
     record { turns = []; sender = sender; session = session; sram = sram }
 looped (suc count) port image sender session sram =
-    let asks : AskResult = asked sender image in
-    let head : Result = step session sram (item_of asks.sent) in
-    let tells : TellResult = told_back asks.sender image port head.answer.echo in
+    let asks : Reply Sent = asked sender image in
+    let head : Result = step session sram (item_of (sent_by asks.answer)) in
+    let tells : Reply Verdict = told_back asks.sender image port head.answer.echo in
     then_turns
-    (record { given = asks.answer; sent = asks.sent; answer = head.answer; said = tells.answer })
+    (record { given = asks.answer; sent = sent_by asks.answer; answer = head.answer; said = tells.answer })
     (looped count port image tells.sender head.session head.sram)
 
 -- the sender's side of several turns: the items that it gave, what it said when told, and the sender that the last one leaves
 pub record Side : Type 0 where
   pub sent : List Sent
-  pub said : List TellAnswer
+  pub said : List (OkOrErr Verdict Unheard)
   pub sender : Sender
 
 -- the sender alone, asked and told one echo after another
 unfoldable pub hearing : List Echo → Port → List ℕ → Sender → Side
 hearing [] port image sender = record { sent = []; said = []; sender = sender }
 hearing (echo ∷ echoes) port image sender =
-    let asks : AskResult = asked sender image in
-    let tells : TellResult = told_back asks.sender image port echo in
+    let asks : Reply Sent = asked sender image in
+    let tells : Reply Verdict = told_back asks.sender image port echo in
     let rest : Side = hearing echoes port image tells.sender in
-    record { sent = asks.sent ∷ rest.sent; said = tells.answer ∷ rest.said; sender = rest.sender }
+    record { sent = sent_by asks.answer ∷ rest.sent; said = tells.answer ∷ rest.said; sender = rest.sender }
 
 -- one part of each turn, in order
 abbrev pub in_turns : {A : Type 0} → (Turn → A) → Loop → List A
@@ -103,13 +99,13 @@ jump_to sender = jump_of (whole_load sender)
 -- is the first one with the image stored at the start.
 pub record Delivered
     (configuration : Configuration) (sender : Sender) (image sram : List ℕ) (count : ℕ) (loop : Loop) : Type 0 where
-  pub gave : in_turns (λ turn. turn.given) loop ≡ replicate count AskAnswer.Gives
+  pub gave : in_turns (λ turn. is_ok turn.given) loop ≡ replicate count true
   pub items : map item_of (in_turns (λ turn. turn.sent) loop) ≡ items_of sender image
   pub echoed : in_turns (λ turn. turn.answer.echo) loop ≡ echoes_of sender image
   pub answered : in_turns (λ turn. turn.answer.outcome) loop
       ≡ until_last count Outcome.Taken (Outcome.Jumps (jump_to sender))
   pub said : in_turns (λ turn. turn.said) loop
-      ≡ until_last count (TellAnswer.Says Verdict.GoesOn) (TellAnswer.Says Verdict.Done)
+      ≡ until_last count (Ok Verdict.GoesOn) (Ok Verdict.Done)
   pub idles : loop.sender ≡ idle
   pub jumped : loop.session ≡ holding_none configuration (Stage.Jumped (jump_to sender))
   pub loaded : loop.sram ≡ stored sram (load_header sender).start.0 image
@@ -118,13 +114,13 @@ pub record Delivered
 -- ignores the first item of the header, so that the load is abandoned.
 pub record TurnedAway
     (configuration : Configuration) (sender : Sender) (image sram : List ℕ) (count : ℕ) (loop : Loop) : Type 0 where
-  pub gave : in_turns (λ turn. turn.given) loop ≡ replicate (suc count) AskAnswer.Gives
+  pub gave : in_turns (λ turn. is_ok turn.given) loop ≡ replicate (suc count) true
   pub items : map item_of (in_turns (λ turn. turn.sent) loop) ≡ take (suc count) (items_of sender image)
   pub answered : in_turns (λ turn. turn.answer.outcome) loop
       ≡ until_last count Outcome.Taken (Outcome.Stops Refusal.Password) ++ Outcome.Ignored ∷ []
   pub echoed : in_turns (λ turn. turn.answer.echo) loop ≡ along (λ at. echo_due at image) count sender ++ no_echo ∷ []
   pub said : in_turns (λ turn. turn.said) loop
-      ≡ replicate count (TellAnswer.Says Verdict.GoesOn) ++ TellAnswer.Says Verdict.Abandoned ∷ []
+      ≡ replicate count (Ok Verdict.GoesOn) ++ Ok Verdict.Abandoned ∷ []
   pub idles : loop.sender ≡ idle
   pub stopped : loop.session ≡ holding_none configuration (Stage.Stopped Refusal.Password)
   pub untouched : loop.sram ≡ sram
@@ -154,7 +150,7 @@ pub record Amid (port : Port) (image : List ℕ) (sender : Sender) (items : List
 -- a sender begun, and a fresh head, connected for so many turns
 abbrev pub connected : Configuration → Port → ℕ → Bool → List ℕ → List ℕ → List ℕ → ℕ → Loop
 connected configuration port start vle password image sram count =
-    looped count port image (load_begun port start vle password (length image)).sender (fresh_session configuration) sram
+    looped count port image (left_by (load_begun port start vle password (length image))) (fresh_session configuration) sram
 
 -- The premise: a password of 8 bytes, a fresh session that is sound, as today every one is, SRAM of the right size, and a header that fits, so an image of
 -- 1 to 65,536 bytes.
@@ -181,7 +177,7 @@ pub record EveryLoad : Type 0 where
   pub begins : (configuration : Configuration) (port : Port) (start : ℕ) (vle : Bool) (password image sram : List ℕ)
       → Line configuration start vle password image sram
       → load_begun port start vle password (length image)
-      ≡ record { answer = BeginAnswer.Goes; sender = new_load port start vle password (length image) }
+      ≡ Ok (new_load port start vle password (length image))
   -- the password that the head selected, and it is legal
   pub delivers : (configuration : Configuration) (port : Port) (start : ℕ) (vle : Bool) (image sram : List ℕ)
       → let password = configuration.password in
@@ -203,6 +199,6 @@ pub record EveryLoad : Type 0 where
       Line configuration start vle password image sram
       → legal password ≡ true
       → stream_of items ≡ items_of (new_load port start vle password (length image)) image
-      → Amid port image (load_begun port start vle password (length image)).sender items
+      → Amid port image (left_by (load_begun port start vle password (length image))) items
       (connected configuration port start vle password image sram count)
       (ran (fresh_session configuration) sram items)
