@@ -2,7 +2,7 @@
 // `replay_window`; this program only reads, calls and writes.
 #![tactic(auto)]
 
-ghost use Rattle.std.specs.Prelude.{◌≤◌, length};
+ghost use Rattle.std.specs.Prelude.{◌≤◌, IfOk, length};
 
 use replay_record::Progress;
 use std::env::{Env, FillError};
@@ -33,35 +33,9 @@ const HELP: &str = "\n\
     end data, end stopped N or end jump ADDRESS. Where it is missing, the file was\n\
     not opened or a read or a write has failed, and standard error says why.\n";
 
-// What a read brought: how many bytes are to be played behind those that the window held, whether the input has ended, and whether the
-// read failed.
-#[derive(Clone, Copy)]
-struct Input {
-    count: usize,
-    last: bool,
-    failed: bool,
-}
-
-// What is kept from window to window: how far the program is, whether the input has ended, and whether the text has, or a read or a
-// write has failed.
-#[derive(Clone, Copy)]
-struct Run {
-    progress: Progress,
-    last: bool,
-    ended: bool,
-}
-
 // Says on standard error what failed, and why. Nothing is left to do where that fails too.
 fn complain(rt: &impl Eprint, name: &str, why: impl Display + Drop) {
     let _ = eprintln!(rt; "replay: {name}: {why}");
-}
-
-// Where the record that begins at a place ends, or the place itself where none is whole and keeps the rules.
-fn record_end(bytes: &[u8], at: usize) -> usize {
-    match capture::read(bytes, at) {
-        Ok(Some(record)) => record.next,
-        _ => at,
-    }
 }
 
 // How long a window has to be that begins with these bytes, so that the records are played that are whole in them, and nothing behind
@@ -70,182 +44,157 @@ fn record_end(bytes: &[u8], at: usize) -> usize {
 fn whole_part(bytes: &[u8]) -> usize {
     let mut part = 0;
     let mut at = 0;
-    while at < bytes.len() {
-        let next = record_end(bytes, at);
-        if next <= at {
-            return part;
-        }
-        part = at + 14;
-        at = next;
+    while let Ok(Some(record)) = capture::read(bytes, at) {
+        part = at.saturating_add(14);
+        at = record.next;
     }
     part
 }
 
-// What a read that failed says, behind the bytes that the window held. One that a signal interrupted says nothing; after any other the
-// whole records that wait for more are played.
-fn read_nothing(rt: &impl Eprint, name: &str, error: io::Error, held: &[u8]) -> Input {
-    if error.kind() == ErrorKind::Interrupted {
-        return Input {
-            count: 0,
-            last: false,
-            failed: false,
-        };
-    }
-    complain(rt, name, error);
-    Input {
-        count: octets::difference(whole_part(held), held.len()),
-        last: false,
-        failed: true,
-    }
-}
-
-// Reads once behind the bytes that the window holds, unless the input has ended or there is no room: to read no bytes looks like the
-// end.
-fn read_once(
-    rt: &impl Eprint,
-    name: &str,
-    input: &mut impl Read,
-    window: &mut [u8],
-    held: usize,
+// A capture that is played: where it is read, by its name, where its text goes, and what is kept from window to window.
+#[derive(Drop)]
+struct Player<'a, E, I, O> {
+    rt: &'a E,
+    name: &'a str,
+    input: &'a mut I,
+    output: &'a mut O,
+    progress: Progress,
     last: bool,
-) -> Input
-    requires { held ≤ length window.old }
-{
-    if last | (held == window.len()) {
-        return Input {
-            count: 0,
-            last,
-            failed: false,
-        };
-    }
-    match input.read(&mut window[held..]) {
-        Ok(count) => Input {
-            count,
-            last: count == 0,
-            failed: false,
-        },
-        Err(error) => read_nothing(rt, name, error, &window[..held]),
-    }
 }
 
-// Writes all, and returns whether that failed. A write that a signal interrupts is made again, and one that takes nothing has failed.
-fn write_out(rt: &impl Eprint, output: &mut impl Write, text: &[u8]) -> bool {
-    let Err(error) = output.write_all(text) else {
-        return false;
-    };
-    if error.kind() == ErrorKind::WriteZero {
-        let _ = eprintln!(rt; "replay: standard output takes no more");
-    } else {
-        complain(rt, "standard output", error);
-    }
-    true
-}
-
-// Reads behind what the window holds, plays what can be played, and writes its text.
-fn play_on(
-    rt: &impl Eprint,
-    name: &str,
-    input: &mut impl Read,
-    output: &mut impl Write,
-    window: &mut [u8],
-    sram: &mut [u8],
-    out: &mut [u8],
-    run: Run,
-) -> Run {
-    let before = run.progress;
-    let held = octets::least(before.unread, window.len());
-    let read = read_once(rt, name, input, window, held, run.last);
-    let room = octets::difference(window.len(), held);
-    let have = held + octets::least(read.count, room);
-    let progress = replay_window::play_window(&mut window[..have], read.last, before, sram, out);
-    let used = octets::least(progress.used, out.len());
-    let failed = write_out(rt, output, &out[..used]);
-    Run {
-        progress,
-        last: read.last,
-        ended: progress.ended | read.failed | failed,
-    }
-}
-
-// Plays window after window until the text has ended, or a read or a write has failed. A proved loop has to end, so its turns are
-// counted, to a number that no run uses up.
-fn play_all(
-    rt: &impl Eprint,
-    name: &str,
-    input: &mut impl Read,
-    output: &mut impl Write,
-    window: &mut [u8],
-    sram: &mut [u8],
-    out: &mut [u8],
-) {
-    let mut run = Run {
-        progress: replay_record::begin(),
-        last: false,
-        ended: false,
-    };
-    for _ in 0..u64::MAX {
-        run = play_on(rt, name, input, output, window, sram, out, run);
-        if run.ended {
-            return;
+impl<E: Eprint, I: Read, O: Write> Player<'_, E, I, O> {
+    // Reads once behind the bytes that the window holds, unless the input has ended or there is no room: to read no bytes looks like the
+    // end. Returns how many bytes the window holds then. A read that a signal interrupted brings none.
+    fn read(&mut self, window: &mut [u8], held: usize) -> io::Result<usize>
+        requires { held ≤ length window.old }
+        ensures { IfOk result (λ have. have ≤ length window.new) }
+    {
+        if self.last || held == window.len() {
+            return Ok(held);
         }
+        match self.input.read(&mut window[held..]) {
+            Ok(count) => {
+                self.last = count == 0;
+                Ok(held + count)
+            }
+            Err(error) if error.kind() == ErrorKind::Interrupted => Ok(held),
+            Err(error) => Err(error),
+        }
+    }
+
+    // Plays what can be played of a window, and writes its text.
+    fn play(&mut self, window: &mut [u8], sram: &mut [u8], out: &mut [u8]) -> io::Result<()> {
+        self.progress = replay_window::play_window(window, self.last, self.progress, sram, out);
+        let used = self.progress.used.min(out.len());
+        self.output.write_all(&out[..used])
+    }
+
+    // Plays window after window until the text has ended, or a read or a write has failed. After a read that failed the whole records that
+    // wait for more are played. A proved loop has to end, so its turns are counted, to a number that no run uses up.
+    fn play_all(&mut self) -> io::Result<()> {
+        let mut window = [0; 8192];
+        let mut sram = replay_record::zeroed_sram();
+        let mut out = [0; 65536];
+        for _ in 0..u64::MAX {
+            let held = self.progress.unread.min(window.len());
+            match self.read(&mut window, held) {
+                Ok(have) => self.play(&mut window[..have], &mut sram, &mut out)?,
+                Err(error) => {
+                    complain(self.rt, self.name, error);
+                    let have = whole_part(&window[..held]).max(held).min(window.len());
+                    return self.play(&mut window[..have], &mut sram, &mut out);
+                }
+            }
+            if self.progress.ended {
+                break;
+            }
+        }
+        Ok(())
     }
 }
 
 // Plays the capture that an input brings.
-fn play_capture(rt: &impl Eprint, name: &str, input: &mut impl Read, output: &mut impl Write) {
-    let mut window = [0u8; 8192];
-    let mut sram = replay_record::zeroed_sram();
-    let mut out = [0u8; 65536];
-    play_all(
+fn play_capture<'a>(
+    rt: &'a impl Eprint,
+    name: &'a str,
+    input: &'a mut impl Read,
+    output: &'a mut impl Write,
+) -> io::Result<()> {
+    let mut player = Player {
         rt,
         name,
         input,
         output,
-        &mut window[..],
-        &mut sram[..],
-        &mut out[..],
-    );
+        progress: replay_record::begin(),
+        last: false,
+    };
+    player.play_all()
 }
 
 // Plays the capture on standard input.
-fn play_input(rt: &impl Eprint, input: &mut (impl Read + IsTerminal), output: &mut impl Write) {
+fn play_input(
+    rt: &impl Eprint,
+    input: &mut (impl Read + IsTerminal),
+    output: &mut impl Write,
+) -> io::Result<()> {
     if input.is_terminal() {
         let _ = eprintln!(rt; "replay: reading a capture from the terminal");
     }
-    play_capture(rt, "standard input", input, output);
+    play_capture(rt, "standard input", input, output)
+}
+
+// Writes how the program is called, and what it does.
+fn help(output: &mut impl Write) -> io::Result<()> {
+    output.write_all(USAGE.as_bytes())?;
+    output.write_all(HELP.as_bytes())
 }
 
 // Does what the program's only argument asks. A file's name is text.
-fn follow(rt: &(impl Files + Eprint), word: &[u8], output: &mut impl Write) {
+fn follow(rt: &(impl Files + Eprint), word: &[u8], output: &mut impl Write) -> io::Result<()> {
     if word == b"--help".as_slice() {
-        if !write_out(rt, output, USAGE.as_bytes()) {
-            write_out(rt, output, HELP.as_bytes());
-        }
-        return;
+        return help(output);
     }
     if word.starts_with(b"-".as_slice()) {
         let _ = rt.eprint(USAGE);
-        return;
+        return Ok(());
     }
     let Ok(name) = str::from_utf8(word) else {
         complain(rt, "the argument", "not UTF-8");
-        return;
+        return Ok(());
     };
     match File::open(rt, name) {
         Ok(mut file) => play_capture(rt, name, &mut file, output),
-        Err(error) => complain(rt, name, error),
+        Err(error) => {
+            complain(rt, name, error);
+            Ok(())
+        }
     }
 }
 
-fn main(rt: HostRuntime) {
+// Does what the arguments ask. What is returned is a failure of standard output.
+fn run(rt: &HostRuntime) -> io::Result<()> {
     if !matches!(rt.arg(2, &mut [0u8; 1]), Err(FillError::NotPresent)) {
         let _ = rt.eprint(USAGE);
-        return;
+        return Ok(());
     }
     let mut word = [0u8; 4096];
     match rt.arg(1, &mut word) {
-        Ok(length) => follow(&rt, &word[..length], &mut rt.stdout()),
-        Err(FillError::NotPresent) => play_input(&rt, &mut rt.stdin(), &mut rt.stdout()),
-        Err(FillError::TooLong) => complain(&rt, "the argument", "File name too long"),
+        Ok(length) => follow(rt, &word[..length], &mut rt.stdout()),
+        Err(FillError::NotPresent) => play_input(rt, &mut rt.stdin(), &mut rt.stdout()),
+        Err(FillError::TooLong) => {
+            complain(rt, "the argument", "File name too long");
+            Ok(())
+        }
+    }
+}
+
+// A write that a signal interrupts is made again, and one that takes nothing has failed.
+fn main(rt: HostRuntime) {
+    match run(&rt) {
+        Ok(()) => {}
+        Err(error) if error.kind() == ErrorKind::WriteZero => {
+            let _ = eprintln!(&rt; "replay: standard output takes no more");
+        }
+        Err(error) => complain(&rt, "standard output", error),
     }
 }
