@@ -3,12 +3,11 @@ use Prim.Native.Nat.{ℕ, zero, suc, ◌+◌, ◌*◌, ◌/◌, ◌%◌, ◌^◌
 use native.Mathlib.Omega.{arith}
 use mathlib.Core.Path.{◌≡◌, refl, sym, ap, ◌∙◌}
 use mathlib.Core.List.{List, [], ◌∷◌, ◌++◌, append_assoc}
-use mathlib.Core.Bool.{Bool, true, false, cond}
 use borrow.Author.Tests.{le-leb, lt-leb}
-use lib.Dec.{leb}
 use lib.ListN.{length, take, drop, length-append, length-drop, take-append-drop}
 use lib.Seq.{take_at, drop-append-add, drop-drop, length-take-le, append_snoc}
 use Rattle.std.proofs.Common.{mod-eq_of_lt}
+use Rattle.std.proofs.lemmas.Bool.Decides.{nat_tests}
 use Rattle.std.proofs.Math.Nat.{pow-succ'}
 use Rattle.octets.specs.Bytes.{word_bytes}
 use Rattle.session_state.specs.declared.Stage.{Stage}
@@ -25,22 +24,11 @@ decimal_fewer (suc more) n h = rw (decimal_fewer more (n / 10) (omega (arith, po
 -- at least one digit, and at most one more than are counted
 decimal_some : (more n : ℕ) → 0 < length (decimal_in more n)
 decimal_some zero n = omega arith
-decimal_some (suc more) n = by_test (leb 10 n)
-  where
-    by_test : (t : Bool) → 0 < length (cond t (decimal_in more (n / 10) ++ last_digit n ∷ []) (last_digit n ∷ []))
-    by_test true = omega (arith, length-append (decimal_in more (n / 10)) (last_digit n ∷ []))
-    by_test false = omega arith
+decimal_some (suc more) n = grind (arith, nat_tests, length-append)
 
 pub decimal-length : (more n : ℕ) → length (decimal_in more n) ≤ more + 1
 decimal-length zero n = omega arith
-decimal-length (suc more) n = by_test (leb 10 n) (decimal-length more (n / 10))
-  where
-    by_test
-        : (t : Bool)
-        → length (decimal_in more (n / 10)) ≤ more + 1
-        → length (cond t (decimal_in more (n / 10) ++ last_digit n ∷ []) (last_digit n ∷ [])) ≤ suc more + 1
-    by_test true h = omega (arith, length-append (decimal_in more (n / 10)) (last_digit n ∷ []), h)
-    by_test false h = omega arith
+decimal-length (suc more) n = grind (arith, nat_tests, length-append, decimal-length more (n / 10))
 
 -- The digits of a number or of bytes in front of a text, of which those of `rest` are not put yet.
 pub record Spelling {A : Type 0} (spelled : A → List ℕ) (all : A) (before : List ℕ) (rest : A) (text : List ℕ) : Type 0 where

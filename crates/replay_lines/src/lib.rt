@@ -58,7 +58,8 @@ impl Line {
         self.bytes[self.start..end].copy_from_slice(text);
     }
 
-    // The digits of a number.
+    // The digits of a number. Of what `Display` writes std promises that it is right where it succeeds, and not that it succeeds, so they are put
+    // by hand.
     fn put_decimal(&mut self, n: u64)
         requires { length self.old + 20 ≤ 64 }
         ensures { self.new ≡ decimal n ++ self.old }
@@ -93,6 +94,21 @@ impl Line {
             self.put_hex(echo);
         }
     }
+
+    // A record's line.
+    fn of_record(ordinal: u64, answer: u8, echo: &[u8]) -> Line
+        requires { length echo.now ≤ 8 }
+        ensures { result ≡ record_line ordinal answer echo.now }
+    {
+        let mut line = Line::new();
+        line.put(b"\n");
+        line.put_echo(echo);
+        line.put(b" ");
+        line.put_decimal(u64::from(answer));
+        line.put(b" ");
+        line.put_decimal(ordinal);
+        line
+    }
 }
 
 // A digit of base 16.
@@ -103,43 +119,29 @@ fn hex_digit(d: u8) -> u8
     if d < 10 { b'0' + d } else { b'A' + (d - 10) }
 }
 
-// A record's line.
-fn line_of_record(ordinal: u64, answer: u8, echo: &[u8]) -> Line
-    requires { length echo.now ≤ 8 }
-    ensures { result ≡ record_line ordinal answer echo.now }
-{
-    let mut line = Line::new();
-    line.put(b"\n");
-    line.put_echo(echo);
-    line.put(b" ");
-    line.put_decimal(u64::from(answer));
-    line.put(b" ");
-    line.put_decimal(ordinal);
-    line
-}
-
 // The last line.
-fn line_of_stage(stage: Stage) -> Line
-    ensures { result ≡ last_line stage }
-{
-    let mut line = Line::new();
-    line.put(b"\n");
-    match stage {
-        Stage::Waiting => line.put(b"end waiting"),
-        Stage::Password => line.put(b"end password"),
-        Stage::Header(_) => line.put(b"end header"),
-        Stage::Data(_, _) => line.put(b"end data"),
-        Stage::Stopped(refusal) => {
-            line.put_decimal(u64::from(session_answers::refusal_number(refusal)));
-            line.put(b"end stopped ");
+impl From<Stage> for Line {
+    ghost from_gives = { λ stage line. line ≡ last_line stage };
+
+    fn from(stage: Stage) -> Line {
+        let mut line = Line::new();
+        line.put(b"\n");
+        match stage {
+            Stage::Waiting => line.put(b"end waiting"),
+            Stage::Password => line.put(b"end password"),
+            Stage::Header(_) => line.put(b"end header"),
+            Stage::Data(_, _) => line.put(b"end data"),
+            Stage::Stopped(refusal) => {
+                line.put_decimal(u64::from(session_answers::refusal_number(refusal)));
+                line.put(b"end stopped ");
+            }
+            Stage::Jumped(jump) => {
+                line.put_hex(&octets::word_bytes(jump.start.0));
+                line.put(b"end jump ");
+            }
         }
-        Stage::Jumped(jump) => {
-            let start = jump.start;
-            line.put_hex(&octets::word_bytes(start.0));
-            line.put(b"end jump ");
-        }
+        line
     }
-    line
 }
 
 // Puts text behind what is there already, or nothing where it has no room, and returns how many bytes are used then. The output and that
@@ -161,12 +163,12 @@ pub fn record_line(out: &mut [u8], used: usize, ordinal: u64, answer: u8, echo: 
     ensures { as_output out.new result ≡ appended (as_output out.old used) (record_line ordinal answer (take 8 echo.now)) }
 {
     let shown = &echo[..echo.len().min(8)];
-    append(out, used, line_of_record(ordinal, answer, shown).text())
+    append(out, used, Line::of_record(ordinal, answer, shown).text())
 }
 
 // Appends the last line.
 pub fn last_line(out: &mut [u8], used: usize, stage: Stage) -> usize
     ensures { as_output out.new result ≡ appended (as_output out.old used) (last_line stage) }
 {
-    append(out, used, line_of_stage(stage).text())
+    append(out, used, Line::from(stage).text())
 }

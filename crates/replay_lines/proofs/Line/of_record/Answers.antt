@@ -3,7 +3,7 @@ use Rattle.std.proofs.Common.{arith, length-append}
 use Rattle.replay_lines.specs.Lines.{echo_text}
 use Rattle.replay_lines.specs.Digits.{ascii, decimal}
 use Rattle.replay_lines.proofs.Laws.{echo_length, decimal-length, record_text}
-use Rattle.replay_lines.proofs.line_of_record.Goals as goal
+use Rattle.replay_lines.proofs.Line.of_record.Goals as goal
 
 pub put-requires-2 : goal.put-requires-2
 put-requires-2 c = grind (arith, length-append, echo_length)
