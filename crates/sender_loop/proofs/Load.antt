@@ -148,19 +148,20 @@ module _ (configuration : Configuration) (sender : Sender) (image sram : List �
     onwards zero place reached e h ok =
         let steps = last place e h reached ok in
         let ends = turn_last sender image meant.going place (sound_at_lem place e h) steps (le-leb (16 + sender.length) (place + wide) reached) in
-        record {
-          gave = ap (in_turns (λ turn. is_ok turn.given)) ends;
-          items = ap (in_turns (λ turn. turn.sent)) ends;
-          echoed = ap (in_turns (λ turn. turn.answer.echo)) ends;
-          answered = ap (in_turns (λ turn. turn.answer.outcome)) ends;
-          said = ap (in_turns (λ turn. turn.said)) ends;
-          idles = ap (λ loop. loop.sender) ends;
-          jumped = ap (λ loop. loop.session) ends ∙ at_end_lem configuration sender image sram (place + wide) reached;
-          loaded = ap (λ loop. loop.sram) ends ∙ rw (take_all (place + wide - 16) image (omega (arith, meant.whole)));
-          same_answers = rw steps.made (sym (ap (in_turns (λ turn. turn.answer)) ends));
-          same_session = rw steps.made (sym (ap (λ loop. loop.session) ends));
-          same_sram = rw steps.made (sym (ap (λ loop. loop.sram) ends));
-        }
+        rw (ends, steps.made)
+        (record {
+          gave = refl;
+          items = refl;
+          echoed = refl;
+          answered = refl;
+          said = refl;
+          idles = refl;
+          jumped = at_end_lem configuration sender image sram (place + wide) reached;
+          loaded = rw (take_all (place + wide - 16) image (omega (arith, meant.whole)));
+          same_answers = refl;
+          same_session = refl;
+          same_sram = refl;
+        })
     onwards (suc count) place reached e h ok =
         let steps = more place e reached.0 ok in
         let goes =
@@ -168,16 +169,17 @@ module _ (configuration : Configuration) (sender : Sender) (image sram : List �
         (lt-leb (16 + sender.length) (place + wide) reached.0) in
         let rest = onwards count (place + wide) reached.1 (next-item sender.port place e) reached.0 steps.ok in
         let answer : Answer = record { outcome = Outcome.Taken; echo = echo_at sender image place } in
-        record {
-          gave = ap (in_turns (λ turn. is_ok turn.given)) goes ∙ ap (λ l. true ∷ l) rest.gave;
-          items = ap (in_turns (λ turn. turn.sent)) goes ∙ ap (λ l. sent_at (at sender place) image ∷ l) rest.items;
-          echoed = ap (in_turns (λ turn. turn.answer.echo)) goes ∙ ap (λ l. echo_at sender image place ∷ l) rest.echoed;
-          answered = ap (in_turns (λ turn. turn.answer.outcome)) goes ∙ ap (λ l. Outcome.Taken ∷ l) rest.answered;
-          said = ap (in_turns (λ turn. turn.said)) goes ∙ ap (λ l. Ok Verdict.GoesOn ∷ l) rest.said;
-          idles = ap (λ loop. loop.sender) goes ∙ rest.idles;
-          jumped = ap (λ loop. loop.session) goes ∙ rest.jumped;
-          loaded = ap (λ loop. loop.sram) goes ∙ rest.loaded;
-          same_answers = rw steps.made (ap (λ l. answer ∷ l) rest.same_answers ∙ sym (ap (in_turns (λ turn. turn.answer)) goes));
-          same_session = rw steps.made (rest.same_session ∙ sym (ap (λ loop. loop.session) goes));
-          same_sram = rw steps.made (rest.same_sram ∙ sym (ap (λ loop. loop.sram) goes));
-        }
+        rw (goes, steps.made)
+        (record {
+          gave = ap (λ l. true ∷ l) rest.gave;
+          items = ap (λ l. sent_at (at sender place) image ∷ l) rest.items;
+          echoed = ap (λ l. echo_at sender image place ∷ l) rest.echoed;
+          answered = ap (λ l. Outcome.Taken ∷ l) rest.answered;
+          said = ap (λ l. Ok Verdict.GoesOn ∷ l) rest.said;
+          idles = rest.idles;
+          jumped = rest.jumped;
+          loaded = rest.loaded;
+          same_answers = ap (λ l. answer ∷ l) rest.same_answers;
+          same_session = rest.same_session;
+          same_sram = rest.same_sram;
+        })

@@ -115,45 +115,34 @@ module _
       let next = rw full at (next-item sender.port place e) in
       let ends = turn-silent sender image meant.going 8 (sound 8 next (omega arith)) stopped sram (ignored steps.ok) silent in
       let tail = ap (λ (n : ℕ). looped (suc zero) sender.port image (at sender n) stopped sram) full ∙ ends in
-      let stop = Outcome.Stops Refusal.Password in
-      record {
-        gave =
-            ap (in_turns (λ turn. is_ok turn.given)) goes
-            ∙ ap (λ (l : Loop). true ∷ in_turns (λ turn. is_ok turn.given) l) tail;
-        items =
-            ap (in_turns (λ turn. turn.sent)) goes
-            ∙ ap (λ (l : Loop). sent_at (at sender place) image ∷ in_turns (λ turn. turn.sent) l) tail
-            ∙ rw full;
-        answered =
-            ap (in_turns (λ turn. turn.answer.outcome)) goes
-            ∙ ap (λ (l : Loop). stop ∷ in_turns (λ turn. turn.answer.outcome) l) tail;
-        echoed =
-            ap (in_turns (λ turn. turn.answer.echo)) goes
-            ∙ ap (λ (l : Loop). echo_at sender image place ∷ in_turns (λ turn. turn.answer.echo) l) tail;
-        said =
-            ap (in_turns (λ turn. turn.said)) goes
-            ∙ ap (λ (l : Loop). Ok Verdict.GoesOn ∷ in_turns (λ turn. turn.said) l) tail;
-        idles = ap (λ loop. loop.sender) goes ∙ ap (λ loop. loop.sender) tail;
-        stops = ap (λ loop. loop.session) goes ∙ ap (λ loop. loop.session) tail;
-        untouched = ap (λ loop. loop.sram) goes ∙ ap (λ loop. loop.sram) tail;
-      }
+      rw (goes, tail)
+      (record {
+        gave = refl;
+        items = rw full;
+        answered = refl;
+        echoed = refl;
+        said = refl;
+        idles = refl;
+        stops = refl;
+        untouched = refl;
+      })
   away (suc count) place rest e ok =
       let steps = password_more configuration sender image sram meant.eight place rest.0 ok in
       let goes =
       turn_more sender image meant.going place (sound_at_lem configuration sender image sram meant place e (omega arith)) steps (suc (suc count))
       (lt-leb (16 + sender.length) (place + wide) (omega arith)) in
       let later = away count (place + wide) rest.1 (next-item sender.port place e) steps.ok in
-      record {
-        gave = ap (in_turns (λ turn. is_ok turn.given)) goes ∙ ap (λ l. true ∷ l) later.gave;
-        items = ap (in_turns (λ turn. turn.sent)) goes ∙ ap (λ l. sent_at (at sender place) image ∷ l) later.items;
-        answered = ap (in_turns (λ turn. turn.answer.outcome)) goes ∙ ap (λ l. Outcome.Taken ∷ l) later.answered;
-        echoed =
-            ap (in_turns (λ turn. turn.answer.echo)) goes ∙ ap (λ l. echo_at sender image place ∷ l) later.echoed;
-        said = ap (in_turns (λ turn. turn.said)) goes ∙ ap (λ l. Ok Verdict.GoesOn ∷ l) later.said;
-        idles = ap (λ loop. loop.sender) goes ∙ later.idles;
-        stops = ap (λ loop. loop.session) goes ∙ later.stops;
-        untouched = ap (λ loop. loop.sram) goes ∙ later.untouched;
-      }
+      rw goes
+      (record {
+        gave = ap (λ l. true ∷ l) later.gave;
+        items = ap (λ l. sent_at (at sender place) image ∷ l) later.items;
+        answered = ap (λ l. Outcome.Taken ∷ l) later.answered;
+        echoed = ap (λ l. echo_at sender image place ∷ l) later.echoed;
+        said = ap (λ l. Ok Verdict.GoesOn ∷ l) later.said;
+        idles = later.idles;
+        stops = later.stops;
+        untouched = later.untouched;
+      })
 
 -- The password's items by a port.
 
