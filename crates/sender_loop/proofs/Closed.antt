@@ -3,8 +3,7 @@ use Prim.Native.Nat.{ℕ, zero, suc, ◌+◌, ◌-◌, ◌*◌, ◌/◌, ◌≤�
 use native.Mathlib.Omega.{arith}
 use mathlib.Core.Path.{◌≡◌, refl, sym, ap, ◌∙◌}
 use mathlib.Core.List.{List, map, map-map}
-use mathlib.Core.Bool.{Bool, true, not, and-eq-true_iff}
-use borrow.Author.Tests.{eqb-false, not-true}
+use mathlib.Core.Bool.{Bool, true}
 use lib.ListN.{length}
 use Rattle.std.specs.Prelude.{Ok}
 use Rattle.octets.proofs.Comparing.{same_own}
@@ -13,7 +12,7 @@ use Rattle.session_configuration.specs.declared.Configuration.{Configuration}
 use Rattle.sram.specs.Region.{size, in_range}
 use Rattle.session_state.specs.declared.Port.{Port}
 use Rattle.header.specs.declared.Header.{Header}
-use Rattle.header.specs.Reading.{announces_none, within, fits, validated}
+use Rattle.header.specs.Reading.{fits, validated}
 use Rattle.session_items.specs.Items.{Item}
 use Rattle.session_answers.specs.declared.Answer.{Answer}
 use Rattle.session_answers.specs.declared.Echo.{Echo}
@@ -66,21 +65,16 @@ before_last Port.Serial length =
 -- What a header that fits says.
 
 fit_some : (configuration : Configuration) (header : Header) → fits configuration header ≡ true → 1 ≤ header.length
-fit_some configuration header e =
-    let some = ((and-eq-true_iff (not (announces_none header)) (within configuration header)).0 e).0 in
-    let none = eqb-false header.length 0 (not-true (announces_none header) some) in
-    omega (arith, none)
+fit_some configuration header e = grind arith
 
 fit_inside : (configuration : Configuration) (header : Header) → fits configuration header ≡ true
     → in_range configuration header.start.0 header.length ≡ true
-fit_inside configuration header e = ((and-eq-true_iff (not (announces_none header)) (within configuration header)).0 e).1
+fit_inside configuration header e = grind arith
 
 fit_judged : (configuration : Configuration) (header : Header) → fits configuration header ≡ true
     → validated configuration header ≡ Ok header
 unfolding validated
-fit_judged configuration header e =
-    let both = (and-eq-true_iff (not (announces_none header)) (within configuration header)).0 e in
-    rw (not-true (announces_none header) both.0, both.1)
+fit_judged configuration header e = grind arith
 
 -- what fits a head fits every other
 fits_other : (configuration other : Configuration) (header : Header) → fits configuration header ≡ fits other header

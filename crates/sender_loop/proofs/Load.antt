@@ -1,10 +1,10 @@
 -- A load from any of its places to its end.
-use Prim.Native.Nat.{ℕ, zero, suc, ◌+◌, ◌-◌, ◌%◌, ◌≤◌, ◌<◌}
+use Prim.Native.Nat.{ℕ, zero, suc, ◌+◌, ◌-◌, ◌≤◌, ◌<◌}
 use native.Mathlib.Omega.{arith}
-use mathlib.Core.Path.{◌≡◌, refl, sym, ap, ◌∙◌}
+use mathlib.Core.Path.{◌≡◌, refl, ap}
 use mathlib.Core.List.{List, [], ◌∷◌, ◌++◌, map}
 use mathlib.Core.Bool.{true}
-use borrow.Author.Tests.{lt-ltb, le-leb, lt-leb, eqb-true, eq-eqb}
+use borrow.Author.Tests.{lt-ltb, le-leb, lt-leb, eq-eqb}
 use lib.ListN.{length, replicate}
 use lib.Seq.{take_all}
 use Rattle.std.specs.Prelude.{Ok, is_ok}
@@ -32,14 +32,11 @@ use Rattle.sender_loop.proofs.Turns.{split, turn_more, turn_last}
 -- by CAN no item goes over the end of the password or of the header
 pub item_room : (port : Port) (place : ℕ) → at_item port place ≡ true
     → (place < 8 → place + width port ≤ 8) × (8 ≤ place → place < 16 → place + width port ≤ 16)
-item_room Port.Can place e =
-    let eighth = eqb-true (place % 8) 0 e in (λ h. omega arith, λ h k. omega arith)
+item_room Port.Can place e = (λ h. grind arith, λ h k. grind arith)
 item_room Port.Serial place e = (λ h. omega arith, λ h k. omega arith)
 
 pub next-item : (port : Port) (place : ℕ) → at_item port place ≡ true → at_item port (place + width port) ≡ true
-next-item Port.Can place e =
-    let eighth = eqb-true (place % 8) 0 e in
-    eq-eqb ((place + 8) % 8) 0 (omega arith)
+next-item Port.Can place e = grind arith
 next-item Port.Serial place e = refl
 
 -- so many items come before the last

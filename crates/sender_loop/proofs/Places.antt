@@ -1,5 +1,5 @@
 -- Where the items of a load begin.
-use Prim.Native.Nat.{ℕ, zero, suc, ◌+◌, ◌-◌, ◌%◌, ◌≤◌, ◌<◌, min}
+use Prim.Native.Nat.{ℕ, zero, suc, ◌+◌, ◌-◌, ◌≤◌, ◌<◌, min}
 use native.Mathlib.Nat.{zero-add, add-zero, sub-zero, min-eq_left}
 use native.Mathlib.Omega.{arith}
 use mathlib.Core.Path.{◌≡◌, refl, sym, ap, ◌∙◌}
@@ -22,13 +22,11 @@ use Rattle.sender_loop.proofs.Closed.{before_last, at_start_lem}
 
 -- no item begins within one, and a whole item more changes nothing
 within : (port : Port) (place : ℕ) → 1 ≤ place → place < width port → at_item port place ≡ false
-within Port.Can place some few = ne_eqb (place % 8) 0 (λ e. omega (arith, e))
+within Port.Can place some few = grind arith
 within Port.Serial place some few = absurd (omega arith)
 
 item_back : (port : Port) (place : ℕ) → width port ≤ place → at_item port (place - width port) ≡ at_item port place
-item_back Port.Can place h =
-    let rest : (place - 8) % 8 ≡ place % 8 = omega arith in
-    rw rest
+item_back Port.Can place h = grind arith
 item_back Port.Serial place h = refl
 
 -- a place within the first item, and one behind it

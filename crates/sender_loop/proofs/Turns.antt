@@ -1,6 +1,7 @@
 -- A sender and a head in turns.
 use Prim.Native.Nat.{ℕ, zero, suc, ◌+◌, ◌≤◌, ◌<◌}
-use mathlib.Core.Path.{◌≡◌, refl, sym, ap, ◌∙◌}
+use native.Mathlib.Omega.{arith}
+use mathlib.Core.Path.{◌≡◌, refl, ap}
 use mathlib.Core.List.{List, [], ◌∷◌}
 use mathlib.Core.Bool.{Bool, true, false, cond}
 use borrow.Author.Tests.{ltb-true, ltb-false, eq-eqb}
@@ -17,12 +18,11 @@ use Rattle.session_answers.specs.Answers.{without_echo, unchanged}
 use Rattle.session.specs.Rules.{step}
 use Rattle.sender_echo.specs.Hearing.{is_echo}
 use Rattle.sender_load.specs.declared.Sender.{Sender}
-use Rattle.sender_load.specs.declared.Sent.{Sent}
 use Rattle.sender_load.specs.Items.{width, role_at, part, sent_at, item_of, standing, next_place, sound_load}
 use Rattle.sender_load.specs.Echoes.{echo_due}
 use Rattle.sender.specs.declared.Unheard.{Unheard}
 use Rattle.sender.specs.declared.Verdict.{Verdict}
-use Rattle.sender.specs.Calls.{idle, Reply, sent_by, gives, gives_none, asked, tells, is_last, told}
+use Rattle.sender.specs.Calls.{idle, sent_by, gives, asked, tells, is_last, told}
 use Rattle.sender_loop.specs.Loop.{Turn, told_back, then_turns, looped, Side, hearing, in_turns}
 use Rattle.sender_loop.proofs.Head.{Steps, at, item_at, echo_at}
 
@@ -60,26 +60,8 @@ module _ (sender : Sender) (image : List ℕ) (place : ℕ) (out : Bool) where
 -- asking again gives the same
 pub asks_again : (sender : Sender) (image : List ℕ) → asked (asked sender image).sender image ≡ asked sender image
 unfolding asked
-asks_again sender image = either sender.going (sound_load sender image) refl refl
-  where
-    either
-        : (g s : Bool)
-        → sender.going ≡ g
-        → sound_load sender image ≡ s
-        → asked (asked sender image).sender image ≡ asked sender image
-    either false s e f =
-        let first : asked sender image ≡ gives_none Unheard.Ignored sender = rw e in
-        ap (λ (r : Reply Sent). asked r.sender image) first
-    either true false e f =
-        let first : asked sender image ≡ gives_none Unheard.Unsound sender = rw (f, e) in
-        ap (λ (r : Reply Sent). asked r.sender image) first
-    either true true e f =
-        let first : asked sender image ≡ gives sender image = rw (f, e) in
-        let out = sender.out in
-        let role = role_at sender in
-        let second : asked (gives sender image).sender image ≡ gives sender image =
-        rw (sound_out sender image sender.place out, f, part_out sender image sender.place out role, e) in
-        ap (λ (r : Reply Sent). asked r.sender image) first ∙ second ∙ sym first
+asks_again sender image =
+    grind (arith, sound_out sender image sender.place sender.out, part_out sender image sender.place sender.out (role_at sender))
 
 module _ (sender : Sender) (image : List ℕ) (going : sender.going ≡ true) where
   module _ (place : ℕ) (sound : sound_load (at sender place) image ≡ true) where
