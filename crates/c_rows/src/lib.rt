@@ -29,9 +29,8 @@ fn put_rows(out: &mut [u32], rows: [Row; 5])
     requires { length out.old ≡ 40 }
     ensures { out.new ≡ table_numbers rows }
 {
-    for (i, row) in rows.iter().enumerate() {
-        buffers::fill(&mut out[8 * i..], &row_numbers(*row));
-    }
+    let numbers = rows.map(row_numbers);
+    buffers::fill(out, numbers.as_flattened());
 }
 
 // Writes the rows, where they are not refused and the output has its length, and returns the number.

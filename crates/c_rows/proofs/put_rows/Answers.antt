@@ -1,14 +1,22 @@
--- One more row.
-use Rattle.std.proofs.Common.{rules, arith, ◌≡◌, ◌+◌, ◌*◌, ◌≤◌, ◌<◌, length}
-use Rattle.c_rows.proofs.Table.{put_row, turn}
+-- Each row's numbers are made by `row_numbers`, and all of them have the output's length.
+use Rattle.std.proofs.Common.{rules, of_calls, arith, ℕ, ◌<◌, ◌≡◌, length, get_or, List}
+use Rattle.buffers.proofs.Lending.{fill_whole}
+use Rattle.mmu.specs.declared.Row.{Row}
+use Rattle.c_rows.specs.Numbers.{row_numbers}
+use Rattle.c_rows.proofs.Table.{laid_out}
 use Rattle.c_rows.proofs.put_rows.Goals as goal
 
-pub loop-i-preserved : goal.loop-i-preserved
-loop-i-preserved c =
-    let a = c.args in
-    let l = c.loop-i in
-    let five : length a.rows ≡ 5 = search rules in
-    let next : l.i < 5 = omega arith in
-    let room : 8 * l.i + 8 ≤ length l.out = omega arith in
-    rw (c.fill.ensures, c.row_numbers.ensures, put_row l.out (8 * l.i) _ room)
-    (turn a.out.now a.rows l.i five _ l.out l.invariant next)
+pub returns : goal.returns
+returns c =
+    let rows = c.args.rows in
+    let numbers = c.map-numbers.result in
+    let five : length rows ≡ 5 = search rules in
+    let many : length numbers ≡ 5 = search rules in
+    let each : (i : ℕ) (d : Row) (e : List ℕ) → i < length rows → get_or numbers i e ≡ row_numbers (get_or rows i d) =
+    λ i d e h. let made = c.map-numbers.ensures.items.at i d e (omega arith) in search (rules, of_calls) in
+    rw (
+      c.fill.ensures,
+      fill_whole c.as_flattened.result.now c.args.out.now (omega arith),
+      c.as_flattened.ensures.value,
+    )
+    (laid_out rows numbers (omega arith) each)
