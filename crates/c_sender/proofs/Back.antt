@@ -1,5 +1,5 @@
 -- The bytes and numbers of a sender, read again.
-use mathlib.Core.Path.{◌≡◌, refl, sym, ap, ◌∙◌}
+use mathlib.Core.Path.{◌≡◌, refl, ap, ◌∙◌}
 use mathlib.Core.Bool.{Bool, true, false}
 use lib.ListN.{length}
 use Rattle.session_state.specs.declared.Port.{Port}
@@ -22,16 +22,7 @@ sender_back : (s : Sender) → length s.configuration.password ≡ 8
     → s.configuration ≡ head_with s.configuration.password
     → sender_read (sender_flat s) ≡ s
 sender_back s eight known =
-    λ i. record {
-      going = flag_back s.going i;
-      configuration = (ap head_with (eight-whole s.configuration.password eight) ∙ sym known) i;
-      port = port_back s.port i;
-      start = s.start;
-      vle = flag_back s.vle i;
-      length = s.length;
-      place = s.place;
-      out = flag_back s.out i;
-    }
+    rw (flag_back s.going, flag_back s.vle, flag_back s.out, port_back s.port, eight-whole s.configuration.password eight, ← known)
 
 pub sender_encoding : (s : Sender) {r : Flat} → r ≡ sender_flat s → length s.configuration.password ≡ 8 → SenderEncoding s r
 sender_encoding s e eight = record { equation = e; reads_back = λ known. ap sender_read e ∙ sender_back s eight known }

@@ -23,10 +23,9 @@ pub const ITEM_WIDTH: usize = 3;
 pub fn sender_numbers(sender: Sender) -> [u32; SENDER_WIDTH]
     ensures { result ≡ sender_numbers sender }
 {
-    let port = sender.port;
     [
         c_answer::flag(sender.going),
-        c_session::port_number(port),
+        c_session::port_number(sender.port),
         sender.start,
         c_answer::flag(sender.vle),
         sender.length,
@@ -35,7 +34,7 @@ pub fn sender_numbers(sender: Sender) -> [u32; SENDER_WIDTH]
     ]
 }
 
-// The flag and the port of a number.
+// The flag and the port of a number. Neither is a `From`: no type of theirs is of this crate.
 pub fn flag_of(number: u32) -> bool
     ensures { result ≡ flag_of number }
 {
@@ -45,10 +44,10 @@ pub fn flag_of(number: u32) -> bool
 pub fn port_of(number: u32) -> Port
     ensures { result ≡ port_for number }
 {
-    if number == 0 {
-        return Port::Can;
+    match number {
+        0 => Port::Can,
+        _ => Port::Serial,
     }
-    Port::Serial
 }
 
 // The sender of bytes and numbers.
@@ -89,7 +88,7 @@ pub fn item_numbers(sent: Sent) -> [u32; ITEM_WIDTH]
     ]
 }
 
-// The number of what becomes of a load.
+// The number of what becomes of a load. It is no `From`: `Verdict` is of `sender`, and C's number of it is stated here.
 pub fn verdict_number(verdict: Verdict) -> u8
     ensures { result ≡ verdict_number verdict }
 {
