@@ -37,14 +37,7 @@ pub record Spelling {A : Type 0} (spelled : A → List ℕ) (all : A) (before : 
 module _ {n : ℕ} {before : List ℕ} {rest : ℕ} {text : List ℕ} (spelling : Spelling decimal n before rest text) where
   pub digit_room : length before + 20 ≤ 64 → length text < 64
   digit_room room =
-      omega (
-        arith,
-        ap length spelling.digits,
-        length-append (decimal rest) text,
-        length-append (decimal n) before,
-        decimal_some 19 rest,
-        decimal-length 19 n,
-      )
+      omega (arith, ap length spelling.digits, length-append {A = ℕ}, decimal_some 19 rest, decimal-length 19 n)
 
   pub digit_more : 10 ≤ rest → rest < 2 ^ 64 → Spelling decimal n before (rest / 10) ((48 + rest % 10) ∷ text)
   digit_more h k =
@@ -74,17 +67,7 @@ hex_snoc (first ∷ bytes) byte text = rw (hex_snoc bytes byte text) refl
 
 module _ {bytes before rest text : List ℕ} (front : List ℕ) (byte : ℕ) (last : rest ≡ front ++ byte ∷ []) (spelling : Spelling hex_of bytes before rest text) where
   pub hex_room : 2 * length bytes + length before ≤ 64 → length text + 2 ≤ 64
-  hex_room room =
-      omega (
-        arith,
-        ap length spelling.digits,
-        ap length last,
-        length-append front (byte ∷ []),
-        length-append (hex_of rest) text,
-        length-append (hex_of bytes) before,
-        hex_length rest,
-        hex_length bytes,
-      )
+  hex_room room = omega (arith, ap length spelling.digits, ap length last, length-append {A = ℕ}, hex_length)
 
   pub hex_more : Spelling hex_of bytes before front (hex_digit (byte / 16) ∷ hex_digit (byte % 16) ∷ text)
   hex_more = record { digits = hex_snoc front byte text ∙ rw (← last) spelling.digits }
@@ -92,6 +75,12 @@ module _ {bytes before rest text : List ℕ} (front : List ℕ) (byte : ℕ) (la
 pub echo_length : (echo : List ℕ) → length echo ≤ 8 → length (echo_text echo) ≤ 16
 echo_length [] h = omega arith
 echo_length (byte ∷ bytes) h = omega (arith, hex_length (byte ∷ bytes))
+
+-- how long the pieces of a record's line are
+pub number_length : (n : ℕ) → length (decimal n) ≤ 20
+number_length n = decimal-length 19 n
+
+pub ruleset piece_lengths = (length-append, echo_length, number_length)
 
 -- a record's line, in the order in which its pieces are put
 pub record_text : (ordinal answer echo feed : List ℕ)
@@ -101,42 +90,15 @@ record_text ordinal answer echo feed = simp append_assoc
 -- How long the lines are.
 pub record_length : (ordinal answer : ℕ) (echo : List ℕ) → length echo ≤ 8 → length (record_line ordinal answer echo) ≤ 59
 record_length ordinal answer echo h =
-    let first = decimal ordinal ++ ascii " " in
-    let second = first ++ decimal answer in
-    let third = second ++ ascii " " in
-    omega (
-      arith,
-      length-append (third ++ echo_text echo) (ascii "\n"),
-      length-append third (echo_text echo),
-      length-append second (ascii " "),
-      length-append first (decimal answer),
-      length-append (decimal ordinal) (ascii " "),
-      decimal-length 19 ordinal,
-      decimal-length 19 answer,
-      echo_length echo h,
-    )
+    simp length-append (omega (arith, decimal-length 19 ordinal, decimal-length 19 answer, echo_length echo h))
 
 pub last_length : (stage : Stage) → length (last_line stage) ≤ 33
 last_length Stage.Waiting = omega arith
 last_length Stage.Password = omega arith
 last_length (Stage.Header port) = omega arith
 last_length (Stage.Data port load) = omega arith
-last_length (Stage.Stopped refusal) =
-    let number = decimal (refusal_number refusal) in
-    omega (
-      arith,
-      length-append (ascii "end stopped " ++ number) (ascii "\n"),
-      length-append (ascii "end stopped ") number,
-      decimal-length 19 (refusal_number refusal),
-    )
-last_length (Stage.Jumped jump) =
-    let address = word_bytes jump.start.0 in
-    omega (
-      arith,
-      length-append (ascii "end jump " ++ hex_of address) (ascii "\n"),
-      length-append (ascii "end jump ") (hex_of address),
-      hex_length address,
-    )
+last_length (Stage.Stopped refusal) = simp length-append (omega (arith, decimal-length 19 (refusal_number refusal)))
+last_length (Stage.Jumped jump) = simp length-append (omega (arith, hex_length (word_bytes jump.start.0)))
 
 -- Text that has room is put behind what is there.
 pub appended-room : (bytes : List ℕ) (used : ℕ) (text : List ℕ) → used + length text ≤ length bytes

@@ -96,6 +96,7 @@ impl Line {
     }
 
     // A record's line.
+    #[tactic(auto, using(crate::proofs::Laws::piece_lengths))]
     fn of_record(ordinal: u64, answer: u8, echo: &[u8]) -> Line
         requires { length echo.now ≤ 8 }
         ensures { result ≡ record_line ordinal answer echo.now }
