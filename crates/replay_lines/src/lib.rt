@@ -60,6 +60,7 @@ impl Line {
 
     // The digits of a number. Of what `Display` writes std promises that it is right where it succeeds, and not that it succeeds, so they are put
     // by hand.
+    #[tactic(auto, using(crate::proofs::Laws::digit_room, crate::proofs::Laws::digit_last))]
     fn put_decimal(&mut self, n: u64)
         requires { length self.old + 20 ≤ 64 }
         ensures { self.new ≡ decimal n ++ self.old }
@@ -73,6 +74,7 @@ impl Line {
     }
 
     // The digits of several bytes.
+    #[tactic(auto, using(crate::proofs::Laws::hex_room, crate::proofs::Laws::hex_more))]
     fn put_hex(&mut self, bytes: &[u8])
         requires { 2 * length bytes.now + length self.old ≤ 64 }
         ensures { self.new ≡ hex_of bytes.now ++ self.old }
