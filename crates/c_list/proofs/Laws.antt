@@ -1,4 +1,5 @@
 -- An item of a list whose session and SRAM are accepted: it is refused for its form, or answered; and its answer in its places.
+use Rattle.std.specs.Prelude.{Ok, Err}
 use Prim.Native.Nat.{ℕ, ◌+◌, ◌*◌, ◌-◌, ◌≤◌}
 use native.Mathlib.Omega.{arith}
 use mathlib.Core.Path.{◌≡◌, refl, sym, ap, ◌∙◌}
@@ -14,7 +15,6 @@ use Rattle.session_items.specs.Items.{Item, well_formed}
 use Rattle.session_answers.specs.declared.Answer.{Answer}
 use Rattle.session_answers.specs.declared.Fault.{Fault}
 use Rattle.session_answers.specs.declared.Outcome.{Outcome}
-use Rattle.session_answers.specs.declared.Prechecked.{Prechecked}
 use Rattle.session_answers.specs.Answers.{outcome_number, precheck, unchanged}
 use Rattle.session_answers.proofs.Laws.{precheck_passed}
 use Rattle.session.specs.Rules.{step}
@@ -76,11 +76,11 @@ pub record Six (session : Flat) (sram : List ℕ) (item : Item) (answer : Flat) 
   pub step_is : step (session_in session) sram item ≡ unchanged (Outcome.Refused Fault.Form) (session_in session) sram
 
 module _ (session : Flat) (sram : List ℕ) (item : Item) (answer : Flat) (reply : Reply) (claim : ItemClaim session sram item answer reply)
-    (there : answer_places answer ≡ true) (passed : precheck (session_in session) sram true ≡ Prechecked.Passed) where
-  formed : well_formed item ≡ true → precheck (session_in session) sram (well_formed item) ≡ Prechecked.Passed
+    (there : answer_places answer ≡ true) (passed : precheck (session_in session) sram true ≡ Ok tt) where
+  formed : well_formed item ≡ true → precheck (session_in session) sram (well_formed item) ≡ Ok tt
   formed w = rw w passed
 
-  unformed : well_formed item ≡ false → precheck (session_in session) sram (well_formed item) ≡ Prechecked.Refused Fault.Form
+  unformed : well_formed item ≡ false → precheck (session_in session) sram (well_formed item) ≡ Err Fault.Form
   unfolding precheck
   unformed w = let ok = (precheck_passed (session_in session) sram true passed).0 in rw (ok.right, ok.fine, w)
 

@@ -3,10 +3,8 @@
 #![tactic(auto)]
 
 ghost use Rattle.std.specs.Prelude.{◌≡◌, ◌+◌, ◌*◌, ◌≤◌, true, length};
-ghost use Rattle.session_items.specs.Items.{Item};
 ghost use Rattle.session_answers.specs.declared.Fault.{Fault};
 ghost use Rattle.session_answers.specs.declared.Outcome.{Outcome};
-ghost use Rattle.session_answers.specs.declared.Prechecked.{Prechecked};
 ghost use Rattle.session_answers.specs.Answers.{precheck, without_echo};
 ghost use Rattle.session.specs.Rules.{step};
 ghost use Rattle.session.specs.Running.{ran};
@@ -17,59 +15,45 @@ ghost use Rattle.c_list.specs.Calls.{items_of, parts_fit, list_fits, answer_at, 
 
 use c_answer::{ANSWER_WIDTH, ECHO_WIDTH};
 use session_answers::{Fault, Outcome};
-use session_items::Source;
 
-// Whether each kind and count is an item's, and the counts add up to so many bytes.
-fn parts_fit(kinds: &[u8], counts: &[u32], total: usize) -> bool
-    requires { length counts.now ≡ length kinds.now }
-    ensures { result ≡ parts_fit kinds.now counts.now total }
-{
-    let mut left = total;
-    let mut i: usize = 0;
-    while i < kinds.len() {
-        let count = counts[i] as usize;
-        if !session_items::is_item(kinds[i], counts[i]) {
-            return false;
-        }
-        if left < count {
-            return false;
-        }
-        left = left - count;
-        i = i + 1;
-    }
-    left == 0
+// The items of a list as C hands them in: a kind, an identifier and a count for each, and the bytes of all.
+#[derive(Clone, Copy)]
+struct Items<'a> {
+    kinds: &'a [u8],
+    identifiers: &'a [u32],
+    counts: &'a [u32],
+    bytes: &'a [u8],
 }
 
-// Whether the lists fit each other.
-fn list_fits(
-    kinds: &[u8],
-    identifiers: &[u32],
-    counts: &[u32],
-    total: usize,
-    echoes: usize,
-    answers: usize,
-) -> bool
-    ensures { result ≡ list_fits kinds.now identifiers.now counts.now total echoes answers }
-{
-    if identifiers.len() != kinds.len() {
-        return false;
+impl Items<'_> {
+    // Whether each kind and count is an item's, and the counts add up to the bytes.
+    fn parts_fit(&self) -> bool
+        requires { length self.now.counts.now ≡ length self.now.kinds.now }
+        ensures { result ≡ parts_fit self.now.kinds.now self.now.counts.now (length self.now.bytes.now) }
+    {
+        let counts = self.counts;
+        let mut left = self.bytes.len();
+        for (i, kind) in self.kinds.iter().enumerate() {
+            let count = counts[i] as usize;
+            if !session_items::is_item(*kind, counts[i]) || left < count {
+                return false;
+            }
+            left -= count;
+        }
+        left == 0
     }
-    if counts.len() != kinds.len() {
-        return false;
+
+    // Whether the lists fit each other, and so many places for echoes and for numbers of answers.
+    fn fit(&self, echoes: usize, answers: usize) -> bool
+        ensures { result ≡ list_fits self.now.kinds.now self.now.identifiers.now self.now.counts.now (length self.now.bytes.now) echoes answers }
+    {
+        let many = self.kinds.len();
+        self.identifiers.len() == many
+            && self.counts.len() == many
+            && many.checked_mul(ECHO_WIDTH) == Some(echoes)
+            && many.checked_mul(ANSWER_WIDTH) == Some(answers)
+            && self.parts_fit()
     }
-    if echoes % ECHO_WIDTH != 0 {
-        return false;
-    }
-    if echoes / ECHO_WIDTH != kinds.len() {
-        return false;
-    }
-    if answers % ANSWER_WIDTH != 0 {
-        return false;
-    }
-    if answers / ANSWER_WIDTH != kinds.len() {
-        return false;
-    }
-    parts_fit(kinds, counts, total)
 }
 
 // Writes the answer to item i, which is refused for its form.
@@ -92,16 +76,15 @@ fn hand_in_at(
     session_bytes: &mut [u8],
     session: &mut [u32],
     sram: &mut [u8],
-    source: Source,
-    bytes: &[u8],
+    item: &session_items::Item<'_>,
     echoes: &mut [u8],
     answers: &mut [u32],
     i: usize,
 )
-    requires { (precheck (session_in (as_flat session_bytes.old session.old)) sram.old true ≡ Prechecked.Passed)
+    requires { (precheck (session_in (as_flat session_bytes.old session.old)) sram.old true ≡ Ok tt)
         × (echo_width * i + echo_width ≤ length echoes.old)
         × (answer_width * i + answer_width ≤ length answers.old) }
-    ensures { Handed (step (session_in (as_flat session_bytes.old session.old)) sram.old (Item.Of source bytes.now)) i (as_flat echoes.old answers.old)
+    ensures { Handed (step (session_in (as_flat session_bytes.old session.old)) sram.old item.now) i (as_flat echoes.old answers.old)
         (session_in (as_flat session_bytes.new session.new)) sram.new (as_flat echoes.new answers.new) }
 {
     let from = ECHO_WIDTH * i;
@@ -110,8 +93,7 @@ fn hand_in_at(
         session_bytes,
         session,
         sram,
-        source,
-        bytes,
+        item,
         &mut echoes[from..from + ECHO_WIDTH],
         &mut answers[at..at + ANSWER_WIDTH],
     );
@@ -125,36 +107,32 @@ fn run_items(
     session_bytes: &mut [u8],
     session: &mut [u32],
     sram: &mut [u8],
-    kinds: &[u8],
-    identifiers: &[u32],
-    counts: &[u32],
-    bytes: &[u8],
+    items: &Items<'_>,
     echoes: &mut [u8],
     answers: &mut [u32],
 )
     requires { precheck (session_in (as_flat session_bytes.old session.old)) sram.old
-        (list_fits kinds.now identifiers.now counts.now (length bytes.now) (length echoes.old) (length answers.old))
-        ≡ Prechecked.Passed }
+        (list_fits items.now.kinds.now items.now.identifiers.now items.now.counts.now (length items.now.bytes.now) (length echoes.old) (length answers.old))
+        ≡ Ok tt }
     ensures { as_reply 0 (as_flat session_bytes.new session.new) sram.new (as_flat echoes.new answers.new)
-        ≡ list_ran (ran (session_in (as_flat session_bytes.old session.old)) sram.old (items_of kinds.now identifiers.now counts.now bytes.now)) }
+        ≡ list_ran (ran (session_in (as_flat session_bytes.old session.old)) sram.old
+        (items_of items.now.kinds.now items.now.identifiers.now items.now.counts.now items.now.bytes.now)) }
 {
-    let mut at: usize = 0;
-    let mut i: usize = 0;
-    while i < kinds.len() {
-        let end = at + counts[i] as usize;
-        let source = session_items::source_of(kinds[i], identifiers[i]);
-        hand_in_at(
-            session_bytes,
-            session,
-            sram,
-            source,
-            &bytes[at..end],
-            echoes,
-            answers,
-            i,
-        );
-        at = end;
-        i = i + 1;
+    let Items {
+        kinds,
+        identifiers,
+        counts,
+        bytes,
+    } = *items;
+    let mut rest = bytes;
+    for i in 0..kinds.len() {
+        let (own, behind) = rest.split_at(counts[i] as usize);
+        let item = session_items::Item {
+            source: session_items::source_of(kinds[i], identifiers[i]),
+            bytes: own,
+        };
+        hand_in_at(session_bytes, session, sram, &item, echoes, answers, i);
+        rest = behind;
     }
 }
 
@@ -173,29 +151,17 @@ pub fn list(
     ensures { ListClaim (as_flat session_bytes.old session.old) sram.old kinds.now identifiers.now counts.now bytes.now (as_flat echoes.old answers.old)
         (as_reply result (as_flat session_bytes.new session.new) sram.new (as_flat echoes.new answers.new)) }
 {
-    let formed = list_fits(
-        kinds,
-        identifiers,
-        counts,
-        bytes.len(),
-        echoes.len(),
-        answers.len(),
-    );
-    let read = c_session::read_session(session_bytes, session);
-    let first = c_items::item_precheck(read, sram, formed, true);
-    if first != 0 {
-        return first;
-    }
-    run_items(
-        session_bytes,
-        session,
-        sram,
+    let items = Items {
         kinds,
         identifiers,
         counts,
         bytes,
-        echoes,
-        answers,
-    );
+    };
+    let formed = items.fit(echoes.len(), answers.len());
+    let read = c_session::read_session(session_bytes, session);
+    if let Err(due) = c_items::item_precheck(read, sram, formed, true) {
+        return u8::from(due);
+    }
+    run_items(session_bytes, session, sram, &items, echoes, answers);
     0
 }

@@ -79,19 +79,14 @@ fn does_load_fit(configuration: Configuration, load: Load) -> bool
 pub fn is_sound(session: Session) -> bool
     ensures { result ≡ sound session }
 {
-    let configuration = session.configuration;
-    let stage = session.stage;
     let count = session.count;
-    match stage {
-        Stage::Waiting => count == 0,
+    match session.stage {
         Stage::Password => (1 <= count) & (count <= 7),
-        Stage::Header(port) => match port {
-            Port::Can => count == 0,
-            Port::Serial => count <= 7,
-        },
-        Stage::Data(_, load) => (count == 0) & does_load_fit(configuration, load),
-        Stage::Stopped(_) => count == 0,
-        Stage::Jumped(_) => count == 0,
+        Stage::Header(Port::Serial) => count <= 7,
+        Stage::Data(_, load) => (count == 0) & does_load_fit(session.configuration, load),
+        Stage::Waiting | Stage::Header(Port::Can) | Stage::Stopped(_) | Stage::Jumped(_) => {
+            count == 0
+        }
     }
 }
 
@@ -100,16 +95,9 @@ pub fn accepted_vle(stage: Stage) -> bool
     ensures { result ≡ accepted_vle stage }
 {
     match stage {
-        Stage::Waiting => false,
-        Stage::Password => false,
-        Stage::Header(_) => false,
         Stage::Data(_, load) => load.vle,
-        Stage::Stopped(refusal) => match refusal {
-            Refusal::Password => false,
-            Refusal::Length => false,
-            Refusal::Range => false,
-            Refusal::FaultyByte(vle) => vle,
-        },
+        Stage::Stopped(Refusal::FaultyByte(vle)) => vle,
         Stage::Jumped(jump) => jump.vle,
+        Stage::Waiting | Stage::Password | Stage::Header(_) | Stage::Stopped(_) => false,
     }
 }

@@ -1,6 +1,5 @@
 -- The item is refused for its form, which is written, or its answer has been.
 use Rattle.std.proofs.Common.{◌∙◌, sym, ap}
-use Rattle.session_items.specs.Items.{Item}
 use Rattle.session_answers.specs.declared.Fault.{Fault}
 use Rattle.session_answers.specs.declared.Outcome.{Outcome}
 use Rattle.session_answers.specs.Answers.{Result, without_echo}
@@ -16,7 +15,7 @@ pub returns-then-number-eq6 : goal.returns-then-number-eq6
 returns-then-number-eq6 c =
     let a = c.args in
     let there = parts_placed a.i a.echoes.now a.answers.now c.requires.1 c.requires.2 in
-    let says = six (as_flat a.session_bytes.now a.session.now) a.sram.now (Item.Of a.source a.bytes.now)
+    let says = six (as_flat a.session_bytes.now a.session.now) a.sram.now a.item.now
     (as_flat (echo_part a.i a.echoes.now) (answer_part a.i a.answers.now)) _ c.item-number.ensures there c.requires.0 c.if-number-eq6.true in
     let kept = ap (λ (r : Reply). put_parts a.i a.echoes.now a.answers.now r.answer) says.reply_is
     ∙ parts_kept a.i a.echoes.now a.answers.now c.requires.1 c.requires.2 in
@@ -33,7 +32,7 @@ pub returns-else-number-eq6 : goal.returns-else-number-eq6
 returns-else-number-eq6 c =
     let a = c.args in
     let there = parts_placed a.i a.echoes.now a.answers.now c.requires.1 c.requires.2 in
-    let says = other (as_flat a.session_bytes.now a.session.now) a.sram.now (Item.Of a.source a.bytes.now)
+    let says = other (as_flat a.session_bytes.now a.session.now) a.sram.now a.item.now
     (as_flat (echo_part a.i a.echoes.now) (answer_part a.i a.answers.now)) _ c.item-number.ensures there c.requires.0 c.if-number-eq6.false in
     record {
       session_is = c.item-number.ensures.reads_back there;
@@ -41,5 +40,5 @@ returns-else-number-eq6 c =
       answer_is =
           ap (λ (r : Reply). put_parts a.i a.echoes.now a.answers.now r.answer) says
           ∙ parts_answered a.i a.echoes.now a.answers.now c.requires.1 c.requires.2
-          (step (session_in (as_flat a.session_bytes.now a.session.now)) a.sram.now (Item.Of a.source a.bytes.now)).answer;
+          (step (session_in (as_flat a.session_bytes.now a.session.now)) a.sram.now a.item.now).answer;
     }

@@ -1,5 +1,5 @@
 -- Before the items nothing is handed in; each item's bytes are there, and it is handed in as the run has it; behind them all are.
-use Rattle.std.proofs.Common.{◌≡◌, ◌+◌, ◌-◌, get_or, arith}
+use Rattle.std.proofs.Common.{arith}
 use Rattle.c_answer.specs.Writing.{as_flat}
 use Rattle.c_session.specs.Reading.{session_in}
 use Rattle.c_list.proofs.Handing.{nothing_due, begun, part-there, turn, ended}
@@ -8,15 +8,16 @@ use Rattle.c_list.proofs.run_items.Goals as goal
 pub loop-i-init : goal.loop-i-init
 loop-i-init c =
     let a = c.args in
-    begun a.session_bytes.now a.session.now a.sram.now a.kinds.now a.identifiers.now a.counts.now a.bytes.now a.echoes.now a.answers.now c.requires
+    let b = a.items.now in
+    begun a.session_bytes.now a.session.now a.sram.now b.kinds.now b.identifiers.now b.counts.now b.bytes.now a.echoes.now a.answers.now c.requires
 
-pub slice_bounds-hand_in_at-end : goal.slice_bounds-hand_in_at-end
-slice_bounds-hand_in_at-end c =
+pub split_at-requires : goal.split_at-requires
+split_at-requires c =
     let a = c.args in
+    let b = a.items.now in
     let l = c.loop-i in
-    let there = part-there a.session_bytes.now a.session.now a.sram.now a.kinds.now a.identifiers.now a.counts.now a.bytes.now a.echoes.now a.answers.now
-    l.session_bytes l.session l.sram l.echoes l.answers l.at l.i l.invariant c.loop-i-test.true in
-    omega arith
+    part-there a.session_bytes.now a.session.now a.sram.now b.kinds.now b.identifiers.now b.counts.now b.bytes.now a.echoes.now a.answers.now
+    l.session_bytes l.session l.sram l.echoes l.answers l.rest.now l.i l.invariant c.loop-i-test.true
 
 pub hand_in_at-requires : goal.hand_in_at-requires
 hand_in_at-requires c =
@@ -29,16 +30,18 @@ hand_in_at-requires c =
 pub loop-i-preserved : goal.loop-i-preserved
 loop-i-preserved c =
     let a = c.args in
+    let b = a.items.now in
     let l = c.loop-i in
-    let many : l.at + get_or a.counts.now l.i 0 - l.at ≡ get_or a.counts.now l.i 0 = omega arith in
-    turn a.session_bytes.now a.session.now a.sram.now a.kinds.now a.identifiers.now a.counts.now a.bytes.now a.echoes.now a.answers.now
-    l.session_bytes l.session l.sram l.echoes l.answers l.at l.i l.invariant _ _ _ _ _ c.loop-i-test.true
-    (rw (many, c.source_of-source.ensures) at c.hand_in_at.ensures)
-    c.hand_in_at.auto.session_bytes c.hand_in_at.auto.session c.hand_in_at.auto.sram
+    rw c.split_at.ensures.back
+    (turn a.session_bytes.now a.session.now a.sram.now b.kinds.now b.identifiers.now b.counts.now b.bytes.now a.echoes.now a.answers.now
+    l.session_bytes l.session l.sram l.echoes l.answers l.rest.now l.i l.invariant _ _ _ _ _ c.loop-i-test.true
+    (rw (c.split_at.ensures.front, c.source_of.ensures) at c.hand_in_at.ensures)
+    c.hand_in_at.auto.session_bytes c.hand_in_at.auto.session c.hand_in_at.auto.sram)
 
 pub returns : goal.returns
 returns c =
     let a = c.args in
+    let b = a.items.now in
     let l = c.loop-i in
-    ended a.session_bytes.now a.session.now a.sram.now a.kinds.now a.identifiers.now a.counts.now a.bytes.now a.echoes.now a.answers.now
-    l.session_bytes l.session l.sram l.echoes l.answers l.at l.i l.invariant c.loop-i-test.false
+    ended a.session_bytes.now a.session.now a.sram.now b.kinds.now b.identifiers.now b.counts.now b.bytes.now a.echoes.now a.answers.now
+    l.session_bytes l.session l.sram l.echoes l.answers l.rest.now l.i l.invariant (omega arith)
