@@ -12,7 +12,7 @@ use Rattle.session_answers.specs.Answers.{Result}
 use Rattle.replay_record.specs.Handling.{record_step, Handling, unhandled, handling_of}
 
 -- no kind has the end mark's number
-counted : (kind : Kind) → eqb (kind_number kind) 0 ≡ false
+pub counted : (kind : Kind) → eqb (kind_number kind) 0 ≡ false
 counted Kind.Can = refl
 counted Kind.Clean = refl
 counted Kind.Faulty = refl

@@ -9,7 +9,7 @@ use lib.Dec.{eqb, leb, ltb}
 use lib.ListN.{length, drop, length-drop}
 use lib.Seq.{take-append-le, take-append_seam, drop-append-le, drop-drop}
 use Rattle.capture.specs.Records.{Read, found}
-use Rattle.capture.proofs.Laws.{found-next}
+use Rattle.capture.proofs.Laws.{found_next}
 use Rattle.capture.proofs.Window.{window as fourteen}
 use Rattle.session_answers.specs.Answers.{Result}
 use Rattle.replay_lines.specs.Lines.{record_line}
@@ -58,7 +58,7 @@ pub printing-within : (kept : Carried) (bytes : List ℕ)
     × ((printing_from kept bytes).kept.ordinal ≤ kept.ordinal + 1)
 printing-within kept bytes =
     printing_of-within kept (found 0 bytes) (length bytes)
-    (λ e h. let room = found-next 0 bytes e h in (omega (arith, room.0), omega (arith, room.1)))
+    (λ e h. let room = found_next 0 bytes e h in (omega (arith, room.0), omega (arith, room.1)))
 
 -- what follows matters only where the text does not end
 alike : (over : Bool) (text other : List ℕ) → (over ≡ false → text ≡ other) → cond over [] text ≡ cond over [] other

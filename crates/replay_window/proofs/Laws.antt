@@ -1,104 +1,123 @@
--- What is printed of a record that was handled, and that reading it, handing it in and printing it are the record's printing.
+-- What a call on one record does: of a record that is answered, of the end mark, and of a bad one.
 use Prim.Native.Nat.{ℕ, ◌+◌, ◌≤◌}
-use mathlib.Core.Path.{◌≡◌, refl, ap, ◌∙◌}
+use native.Mathlib.Omega.{arith}
+use mathlib.Core.Path.{◌≡◌, refl, sym, ap, ◌∙◌}
 use mathlib.Core.List.{List, [], ◌++◌}
-use mathlib.Core.Bool.{Bool, true, false, cond}
-use borrow.Author.Tests.{eq-eqb, ne_eqb}
-use lib.Dec.{eqb}
-use lib.ListN.{length}
-use Rattle.capture.specs.Records.{Read}
-use Rattle.session_state.specs.declared.Stage.{Stage}
-use Rattle.replay_lines.specs.Lines.{record_line, last_line}
+use mathlib.Core.Bool.{true, false}
+use borrow.Author.Tests.{eqb-false}
+use lib.ListN.{length, take, length-append}
+use Rattle.std.proofs.Common.{add-zero, length-take}
+use Rattle.std.specs.Prelude.{Option, Some, None, Ok, Err, Result as OkOrErr}
+use Rattle.capture.specs.declared.Damaged.{Damaged}
+use Rattle.capture.specs.Records.{kind_number, Read, found}
+use Rattle.capture.proofs.Laws.{found_next}
+use Rattle.session_state.specs.declared.Session.{Session}
+use Rattle.session_answers.specs.declared.StepResult.{StepResult}
+use Rattle.session_answers.specs.Answers.{outcome_number, result_of}
+use Rattle.replay_lines.specs.Lines.{record_line}
 use Rattle.replay_lines.specs.Output.{Output, as_output, appended}
-use Rattle.replay_lines.proofs.Laws.{appended_twice}
+use Rattle.replay_lines.proofs.Laws.{record_length, last_length, appended_twice}
 use Rattle.replay_record.specs.declared.Handled.{Handled}
 use Rattle.replay_record.specs.Handling.{Handling, as_handling, handling_of}
-use Rattle.replay_record.specs.Beginning.{Carried}
+use Rattle.replay_record.specs.Beginning.{Carried, keeping}
+use Rattle.replay_record.proofs.Laws.{counted}
 use Rattle.replay_window.specs.declared.Turn.{Turn}
-use Rattle.replay_window.specs.Printing.{Printing, recorded, closing, ends, printing_of, kept_after, printing_after}
-use Rattle.replay_window.specs.Windows.{CallResult, as_call_result}
-use Rattle.replay_window.specs.Turns.{Printed, as_printed, printed_at, printed_of, turn_behind}
+use Rattle.replay_window.specs.Printing.{echo_bytes, recorded, closing, ends, printing_of, printing_after}
+use Rattle.replay_window.specs.Windows.{as_call_result}
+use Rattle.replay_window.specs.Turns.{Printed, as_printed, printed_at, printing_result, moved_on}
 
--- The printing of a record that was handled, case by case.
-module _ (ordinal : ℕ) (handling : Handling) where
-  pub printing_bad : (handling.read ≡ 0 → ⊥)
-      → ends (kept_after ordinal handling) (record_line ordinal handling.read [] ++ closing (kept_after ordinal handling)) ≡ printing_after ordinal handling
-  unfolding printing_after
-  printing_bad h = rw (ne_eqb handling.read 0 h)
+-- a record that is answered lies within the bytes
+pub record_within
+    : (session : Session) (sram bytes sram' : List ℕ) (handled : Handled)
+    → as_handling session (Ok (Some handled)) sram' ≡ handling_of session sram (found 0 bytes)
+    → handled.record.next ≤ length bytes
+unfolding handling_of
+record_within session sram bytes sram' handled told =
+    let number = ap (λ (h : Handling). h.read) told in
+    let kind = ap (λ (h : Handling). h.kind) told in
+    let next = ap (λ (h : Handling). h.taken) told in
+    let room = found_next 0 bytes (sym number) (λ none. eqb-false (kind_number handled.record.kind) 0 (counted handled.record.kind) (kind ∙ none)) in
+    omega (arith, next, room.1)
 
-  pub printing_end : handling.read ≡ 0 → handling.kind ≡ 0 → ends (kept_after ordinal handling) (closing (kept_after ordinal handling)) ≡ printing_after ordinal handling
-  unfolding printing_after
-  printing_end e h = rw (eq-eqb handling.read 0 e, eq-eqb handling.kind 0 h)
+-- what is printed of a record, with SRAM after it
+module _ (kept : Carried) (read : Read) (sram' : List ℕ) where
+  abbrev after : Carried
+  after = keeping kept.ordinal kept.session sram'
 
-  pub printing_record : handling.read ≡ 0 → (handling.kind ≡ 0 → ⊥) → recorded (kept_after ordinal handling) handling.taken handling.result ≡ printing_after ordinal handling
-  unfolding printing_after
-  printing_record e h = rw (eq-eqb handling.read 0 e, ne_eqb handling.kind 0 h)
+  abbrev Told : OkOrErr (Option Handled) Damaged → Type 0
+  Told result = as_handling kept.session result sram' ≡ handling_of kept.session kept.sram read
 
--- the last line behind another line
-pub last_behind
-    : (ordinal : ℕ) (stage : Stage) (turn : Turn) (after bytes : List ℕ) (used : ℕ) (line : List ℕ) (out : Output)
-    → used + length line + length (last_line stage) ≤ length bytes
-    → out ≡ appended (as_output bytes used) line
-    → as_printed turn after ≡ printed_at 0 true ordinal (appended out (last_line stage))
-    → as_printed turn after ≡ printed_at 0 true ordinal (appended (as_output bytes used) (line ++ last_line stage))
-last_behind ordinal stage turn after bytes used line out room first e =
-    e
-    ∙ ap (λ (o : Output). printed_at 0 true ordinal (appended o (last_line stage))) first
-    ∙ ap (printed_at 0 true ordinal) (appended_twice bytes used line (last_line stage) room)
+  abbrev line_of : StepResult → List ℕ
+  line_of result = record_line kept.ordinal (outcome_number result.answer.outcome) (echo_bytes result.answer.echo)
 
--- one record: the result of a call after it, with its text behind what the output holds already
-abbrev pub result_with : Printed → Carried → CallResult
-result_with printed kept =
-    as_call_result record { turn = printed.turn; session = kept.session } kept.sram printed.out
+  abbrev bad_line : List ℕ
+  bad_line = record_line kept.ordinal 10 []
 
-abbrev pub printing_result : Printing → Output → CallResult
-printing_result printing out = result_with (printed_of printing out) printing.kept
+  printing_record : (handled : Handled) → Told (Ok (Some handled))
+      → recorded (keeping kept.ordinal handled.result.session sram') handled.record.next (result_of handled.result sram') ≡ printing_of kept read
+  unfolding printing_of printing_after
+  printing_record handled told = rw (← told, counted handled.record.kind) refl
 
--- the result of a call whose position counts from another position
-abbrev pub moved_on : ℕ → CallResult → CallResult
-moved_on at call =
-    as_call_result record { turn = turn_behind at call.played.turn; session = call.played.session } call.sram call.out
+  printing_end : Told (Ok None) → ends after (closing after) ≡ printing_of kept read
+  unfolding printing_of printing_after
+  printing_end told = rw (← told) refl
 
--- SRAM and the session are as they are after the record, and what is printed does not depend on SRAM
-module _ (ordinal : ℕ) (handled : Handled) (sram : List ℕ) where
-  printing_by : Bool → Bool → List ℕ → Printing
-  printing_by n k memory =
-      let handling : Handling = as_handling handled memory in
-      cond n
-      (cond k (ends (kept_after ordinal handling) (closing (kept_after ordinal handling))) (recorded (kept_after ordinal handling) handling.taken handling.result))
-      (ends (kept_after ordinal handling) (record_line ordinal handling.read [] ++ closing (kept_after ordinal handling)))
+  printing_bad : Told (Err record {}) → ends after (bad_line ++ closing after) ≡ printing_of kept read
+  unfolding printing_of printing_after
+  printing_bad told = rw (← told) refl
 
-  abbrev Same : Bool → Bool → Type 0
-  Same n k =
-      ((out : Output) → result_with (printed_of (printing_by n k []) out) (kept_after ordinal (as_handling handled sram)) ≡ printing_result (printing_by n k sram) out)
-      × ((printing_by n k []).text ≡ (printing_by n k sram).text)
+  pub record_short : (handled : Handled) → Told (Ok (Some handled))
+      → take 8 (echo_bytes handled.result.answer.echo) ≡ echo_bytes handled.result.answer.echo
+      → length (printing_of kept read).text ≤ 96
+  record_short handled told cut =
+      let answer = handled.result.answer in
+      let echo = echo_bytes answer.echo in
+      let short : length echo ≤ 8 = omega (arith, ap length cut, length-take 8 echo) in
+      rw (← printing_record handled told)
+      (omega (arith, record_length kept.ordinal (outcome_number answer.outcome) echo short))
 
-  by_test : (n k : Bool) → Same n k
-  unfolding printing_by
-  by_test true true = ((λ out. refl), refl)
-  by_test true false = ((λ out. refl), refl)
-  by_test false k = ((λ out. refl), refl)
+  pub end_short : Told (Ok None) → length (printing_of kept read).text ≤ 96
+  end_short told = rw (← printing_end told) (omega (arith, last_length kept.session.stage))
 
-  pub printing_same
-      : ((out : Output) → result_with (printed_of (printing_after ordinal (as_handling handled [])) out) (kept_after ordinal (as_handling handled sram)) ≡ printing_result (printing_after ordinal (as_handling handled sram)) out)
-      × ((printing_after ordinal (as_handling handled [])).text ≡ (printing_after ordinal (as_handling handled sram)).text)
-  unfolding printing_after printing_by
-  printing_same = by_test (eqb handled.read 0) (eqb handled.kind 0)
+  bad_long : length bad_line + length (closing after) ≤ 96
+  bad_long = omega (arith, record_length kept.ordinal 10 [] (omega arith), last_length kept.session.stage)
 
--- the same of what `replay_record::handle` returned
-module _ (kept : Carried) (read : Read) (handled : Handled) (sram : List ℕ) (handled-is : as_handling handled sram ≡ handling_of kept.session kept.sram read) where
-  printing_is : printing_after kept.ordinal (as_handling handled sram) ≡ printing_of kept read
-  unfolding printing_of
-  printing_is = ap (printing_after kept.ordinal) handled-is
+  pub bad_short : Told (Err record {}) → length (printing_of kept read).text ≤ 96
+  bad_short told = rw (← printing_bad told) (omega (arith, bad_long, length-append bad_line (closing after)))
 
-  pub printing-text : (printing_after kept.ordinal (as_handling handled [])).text ≡ (printing_of kept read).text
-  printing-text = (printing_same kept.ordinal handled sram).1 ∙ ap (λ (s : Printing). s.text) printing_is
+  -- a call at a position, on an output of which so many bytes are used
+  module _ (at used : ℕ) (bytes out' : List ℕ) where
+    abbrev Played_as : Turn → Session → Type 0
+    Played_as turn session =
+        as_call_result record { turn = turn; session = session } sram' out'
+        ≡ moved_on at (printing_result (printing_of kept read) (as_output bytes used))
 
-  pub result-printed
-      : (printed : Turn) (after : List ℕ) (out : Output)
-      → as_printed printed after ≡ printed_of (printing_after kept.ordinal (as_handling handled [])) out
-      → as_call_result record { turn = printed; session = handled.result.session } sram after ≡ printing_result (printing_of kept read) out
-  result-printed printed after out e =
-      ap (λ (p : Printed). result_with p (kept_after kept.ordinal (as_handling handled sram))) e
-      ∙ (printing_same kept.ordinal handled sram).0 out
-      ∙ ap (λ (s : Printing). printing_result s out) printing_is
+    pub record_played : (handled : Handled) → Told (Ok (Some handled)) → (used' : ℕ)
+        → as_output out' used' ≡ appended (as_output bytes used) (line_of handled.result)
+        → Played_as record { at = at + handled.record.next; used = used'; ended = false; ordinal = kept.ordinal + 1 } handled.result.session
+    record_played handled told used' e =
+        rw (← printing_record handled told)
+        (ap (λ (o : Output). as_call_result record { turn = record { at = at + handled.record.next; used = o.used; ended = false; ordinal = kept.ordinal + 1 }; session = handled.result.session } sram' o.bytes) e)
+
+    -- a text that ends here
+    ended_played : (text : List ℕ) (turn : Turn) → ends after text ≡ printing_of kept read
+        → as_printed turn out' ≡ printed_at at true kept.ordinal (appended (as_output bytes used) text)
+        → Played_as turn kept.session
+    ended_played text turn is e =
+        rw (← is, add-zero at)
+        (ap (λ (p : Printed). as_call_result record { turn = p.turn; session = kept.session } sram' p.out) e)
+
+    pub end_played : Told (Ok None) → (turn : Turn)
+        → as_printed turn out' ≡ printed_at at true kept.ordinal (appended (as_output bytes used) (closing after))
+        → Played_as turn kept.session
+    end_played told turn e = ended_played (closing after) turn (printing_end told) e
+
+    pub bad_played : Told (Err record {}) → (turn : Turn) (line : Output) → used + 96 ≤ length bytes
+        → line ≡ appended (as_output bytes used) bad_line
+        → as_printed turn out' ≡ printed_at at true kept.ordinal (appended line (closing after))
+        → Played_as turn kept.session
+    bad_played told turn line room first e =
+        ended_played (bad_line ++ closing after) turn (printing_bad told)
+        (e
+        ∙ ap (λ (o : Output). printed_at at true kept.ordinal (appended o (closing after))) first
+        ∙ ap (printed_at at true kept.ordinal) (appended_twice bytes used bad_line (closing after) (omega (arith, room, bad_long))))

@@ -1,53 +1,48 @@
 -- The loop over a window's records: what it has written so far, and what the definition has still to give.
 use Prim.Native.Nat.{ℕ, zero, suc, ◌+◌, ◌-◌, ◌≤◌, ◌<◌}
 use native.Mathlib.Omega.{arith}
-use mathlib.Core.Path.{◌≡◌, refl, sym, ap, subst, ◌∙◌}
+use mathlib.Core.Path.{◌≡◌, refl, sym, ap, ◌∙◌}
 use mathlib.Core.List.{List, [], ◌++◌}
 use mathlib.Core.Bool.{Bool, true, false, cond, not, ◌&&◌, ◌||◌, and-eq-true_iff}
 use borrow.Author.Tests.{leb-true, ltb-true, not-true}
 use lib.Dec.{leb, ltb}
 use lib.ListN.{length, drop, length-append, length-drop}
 use Rattle.buffers.specs.Write.{over}
-use Rattle.capture.specs.Records.{found}
-use Rattle.session_state.specs.declared.Session.{Session}
 use Rattle.replay_lines.specs.Output.{Output, as_output, appended}
 use Rattle.replay_lines.proofs.Laws.{appended-behind}
-use Rattle.replay_record.specs.declared.Handled.{Handled}
-use Rattle.replay_record.specs.Handling.{as_handling, handling_of}
 use Rattle.replay_record.specs.Beginning.{Carried, keeping}
-use Rattle.replay_window.specs.declared.Turn.{Turn}
-use Rattle.replay_window.specs.Printing.{Printing, printing_from, printing_after}
+use Rattle.replay_window.specs.declared.Played.{Played}
+use Rattle.replay_window.specs.Printing.{Printing, printing_from}
 use Rattle.replay_window.specs.Windows.{Playing, onward, ready_in, ready, plays, played_in, CallResult, as_call_result, result_after}
-use Rattle.replay_window.specs.Turns.{as_printed, printed_at, printed_of, turn_behind}
-use Rattle.replay_window.proofs.Laws.{result_with, printing_result, moved_on, printing-text, result-printed}
+use Rattle.replay_window.specs.Turns.{printed_at, result_with, printing_result, moved_on}
 use Rattle.replay_window.proofs.Continuing.{printing-within}
 
--- where the definition is, of a turn with its text and what is kept besides
-abbrev pub state_of : List ℕ → Turn → Session → List ℕ → Playing
-state_of text turn session sram =
+-- where the definition is, of a call with its text and SRAM
+abbrev pub state_of : List ℕ → Played → List ℕ → Playing
+state_of text played sram =
     record {
-      at = turn.at;
+      at = played.turn.at;
       text = text;
-      ended = turn.ended;
-      kept = keeping turn.ordinal session sram;
+      ended = played.turn.ended;
+      kept = keeping played.turn.ordinal played.session sram;
     }
 
-pub record Turning (window : List ℕ) (last : Bool) (kept : Carried) (first : List ℕ) (turn : Turn) (session : Session) (sram out : List ℕ) : Type 0 where
+pub record Turning (window : List ℕ) (last : Bool) (kept : Carried) (first : List ℕ) (played : Played) (sram out : List ℕ) : Type 0 where
   pub text : List ℕ
   pub more : ℕ
-  pub used : turn.used ≡ length text
+  pub used : played.turn.used ≡ length text
   pub wrote : out ≡ over text first
   pub fits : length text ≤ length first
-  pub inside : turn.at ≤ length window
-  pub enough : turn.ended ≡ false → length window < turn.at + more
-  pub same : plays more window last (length first) (state_of text turn session sram) ≡ played_in window last (length first) kept
+  pub inside : played.turn.at ≤ length window
+  pub enough : played.turn.ended ≡ false → length window < played.turn.at + more
+  pub same : plays more window last (length first) (state_of text played sram) ≡ played_in window last (length first) kept
 
 -- how much remains to be read: with each turn it is less
-abbrev pub remaining_in : List ℕ → Turn → ℕ
-remaining_in window turn = cond turn.ended 0 (suc (length window - turn.at))
+abbrev pub remaining_in : List ℕ → Played → ℕ
+remaining_in window played = cond played.turn.ended 0 (suc (length window - played.turn.at))
 
 pub turning_first : (window : List ℕ) (last : Bool) (kept : Carried) (out : List ℕ)
-    → Turning window last kept out record { at = 0; used = 0; ended = false; ordinal = kept.ordinal } kept.session kept.sram out
+    → Turning window last kept out record { turn = record { at = 0; used = 0; ended = false; ordinal = kept.ordinal }; session = kept.session } kept.sram out
 unfolding played_in
 turning_first window last kept out =
     record {
@@ -61,26 +56,27 @@ turning_first window last kept out =
       same = refl;
     }
 
-module _ (window : List ℕ) (last : Bool) (kept : Carried) (first : List ℕ) (turn : Turn) (session : Session) (sram out : List ℕ) (here : Turning window last kept first turn session sram out) where
+module _ (window : List ℕ) (last : Bool) (kept : Carried) (first : List ℕ) (played : Played) (sram out : List ℕ) (here : Turning window last kept first played sram out) where
   abbrev Tested : Bool → Type 0
-  Tested t = t ≡ ready_in (length window - turn.at) last (length out - turn.used) turn.ended turn.ordinal
+  Tested t = t ≡ ready_in (length window - played.turn.at) last (length out - played.turn.used) played.turn.ended played.turn.ordinal
 
   -- the output keeps its length
-  pub turning_long : length out ≡ length first
+  turning_long : length out ≡ length first
   turning_long =
       ap length here.wrote
       ∙ length-append here.text (drop (length here.text) first)
       ∙ omega (arith, here.fits, length-drop (length here.text) first)
 
   -- the code's test is the definition's
-  ready_same : (t : Bool) → Tested t → t ≡ ready window last (length first) (state_of here.text turn session sram)
+  ready_same : (t : Bool) → Tested t → t ≡ ready window last (length first) (state_of here.text played sram)
   unfolding ready
   ready_same t e = e ∙ rw (here.used, turning_long)
 
   -- what it means: the text has not ended, and the next record's text and ordinal have room
-  pub turning_room : (t : Bool) → Tested t → t ≡ true
-      → (turn.ended ≡ false) × (turn.used + 96 ≤ length out) × (turn.ordinal < 0xFFFF_FFFF_FFFF_FFFF)
+  turning_room : (t : Bool) → Tested t → t ≡ true
+      → (played.turn.ended ≡ false) × (played.turn.used + 96 ≤ length out) × (played.turn.ordinal < 0xFFFF_FFFF_FFFF_FFFF)
   turning_room t e yes-ready =
+      let turn = played.turn in
       let readable = not turn.ended && (last || leb 14 (length window - turn.at)) in
       let free = leb 96 (length out - turn.used) in
       let counts = ltb turn.ordinal 0xFFFF_FFFF_FFFF_FFFF in
@@ -93,28 +89,28 @@ module _ (window : List ℕ) (last : Bool) (kept : Carried) (first : List ℕ) (
       )
 
   -- when the next record can't be read the definition is done
-  pub turning_last : (t : Bool) → Tested t → t ≡ false → as_call_result record { turn = turn; session = session } sram out ≡ result_after (played_in window last (length first) kept) first
+  pub turning_last : (t : Bool) → Tested t → t ≡ false → as_call_result played sram out ≡ result_after (played_in window last (length first) kept) first
   turning_last t e stopped =
       rw (here.wrote, here.used) (ap (λ (p : Playing). result_after p first) (sym (done here.more) ∙ here.same))
     where
-      done : (more : ℕ) → plays more window last (length first) (state_of here.text turn session sram) ≡ state_of here.text turn session sram
+      done : (more : ℕ) → plays more window last (length first) (state_of here.text played sram) ≡ state_of here.text played sram
       done zero = refl
       done (suc more) = rw (← ready_same t e, stopped)
 
   -- one record more
   abbrev before : Carried
-  before = keeping turn.ordinal session sram
+  before = keeping played.turn.ordinal played.session sram
 
   abbrev unread : List ℕ
-  unread = drop turn.at window
+  unread = drop played.turn.at window
 
-  module _ (next : Turn) (next-session : Session) (next-sram next-out : List ℕ)
-      (short : length (printing_from before unread).text ≤ 96)
-      (call-is : as_call_result record { turn = next; session = next-session } next-sram next-out ≡ moved_on turn.at (printing_result (printing_from before unread) (as_output out turn.used)))
+  abbrev next-printing : Printing
+  next-printing = printing_from before unread
+
+  module _ (next : Played) (next-sram next-out : List ℕ)
+      (call-is : as_call_result next next-sram next-out ≡ moved_on played.turn.at (printing_result next-printing (as_output out played.turn.used)))
+      (short : length next-printing.text ≤ 96)
       (t : Bool) (e : Tested t) (yes-ready : t ≡ true) where
-    abbrev next-printing : Printing
-    next-printing = printing_from before unread
-
     abbrev text : List ℕ
     text = here.text ++ next-printing.text
 
@@ -123,42 +119,42 @@ module _ (window : List ℕ) (last : Bool) (kept : Carried) (first : List ℕ) (
         let room = (turning_room t e yes-ready).1 in
         omega (arith, length-append here.text next-printing.text, here.used, room, short, turning_long)
 
-    put : appended (as_output out turn.used) next-printing.text ≡ as_output (over text first) (length text)
+    put : appended (as_output out played.turn.used) next-printing.text ≡ as_output (over text first) (length text)
     put =
         rw (here.wrote, here.used)
         (appended-behind here.text first next-printing.text (omega (arith, long, length-append here.text next-printing.text)))
 
-    -- the turn of the record's printing, with the output that `put` gives
+    -- the call after the record's printing, with the output that `put` gives
     turned : Output → CallResult
-    turned o = moved_on turn.at (result_with (printed_at next-printing.taken next-printing.over next-printing.kept.ordinal o) next-printing.kept)
+    turned o = moved_on played.turn.at (result_with (printed_at next-printing.taken next-printing.over next-printing.kept.ordinal o) next-printing.kept)
 
-    all : as_call_result record { turn = next; session = next-session } next-sram next-out ≡ turned (as_output (over text first) (length text))
+    all : as_call_result next next-sram next-out ≡ turned (as_output (over text first) (length text))
     unfolding turned
     all = call-is ∙ ap turned put
 
-    at_is : next.at ≡ turn.at + next-printing.taken
+    at_is : next.turn.at ≡ played.turn.at + next-printing.taken
     unfolding turned
     at_is = ap (λ (l : CallResult). l.played.turn.at) all
 
-    ended_is : next.ended ≡ next-printing.over
+    ended_is : next.turn.ended ≡ next-printing.over
     unfolding turned
     ended_is = ap (λ (l : CallResult). l.played.turn.ended) all
 
-    within : turn.at + next-printing.taken ≤ length window
-    within = omega (arith, (printing-within before unread).0, length-drop turn.at window, here.inside)
+    within : played.turn.at + next-printing.taken ≤ length window
+    within = omega (arith, (printing-within before unread).0, length-drop played.turn.at window, here.inside)
 
     plays_on : (more : ℕ) → 0 < more
-        → plays (more - 1) window last (length first) (onward window (state_of here.text turn session sram))
-        ≡ plays more window last (length first) (state_of here.text turn session sram)
+        → plays (more - 1) window last (length first) (onward window (state_of here.text played sram))
+        ≡ plays more window last (length first) (state_of here.text played sram)
     plays_on zero h = absurd (omega arith)
     plays_on (suc more) h =
         let less : suc more - 1 ≡ more = omega arith in
         rw (less, ← ready_same t e, yes-ready)
 
-    some : length window < turn.at + here.more
+    some : length window < played.turn.at + here.more
     some = here.enough (turning_room t e yes-ready).0
 
-    pub turning_on : Turning window last kept first next next-session next-sram next-out
+    pub turning_on : Turning window last kept first next next-sram next-out
     unfolding turned
     turning_on =
         record {
@@ -170,37 +166,14 @@ module _ (window : List ℕ) (last : Bool) (kept : Carried) (first : List ℕ) (
           inside = omega (arith, at_is, within);
           enough = λ not_ended. omega (arith, at_is, some, (printing-within before unread).1 (sym ended_is ∙ not_ended));
           same =
-              ap (λ (l : CallResult). plays (here.more - 1) window last (length first) (state_of text l.played.turn l.played.session l.sram)) all
+              ap (λ (l : CallResult). plays (here.more - 1) window last (length first) (state_of text l.played l.sram)) all
               ∙ plays_on here.more (omega (arith, some, here.inside))
               ∙ here.same;
         }
 
-    pub turning_less : remaining_in window next < remaining_in window turn
+    pub turning_less : remaining_in window next < remaining_in window played
     turning_less = rw ((turning_room t e yes-ready).0, ended_is) (by_end next-printing.over refl)
       where
-        by_end : (over : Bool) → next-printing.over ≡ over → cond over 0 (suc (length window - next.at)) < suc (length window - turn.at)
+        by_end : (over : Bool) → next-printing.over ≡ over → cond over 0 (suc (length window - next.turn.at)) < suc (length window - played.turn.at)
         by_end true o = omega arith
         by_end false o = omega (arith, at_is, within, (printing-within before unread).1 o)
-
-  -- the record at the position, handled and printed
-  module _ (handled : Handled) (printed : Turn) (next-sram next-out : List ℕ)
-      (handled-is : as_handling handled next-sram ≡ handling_of session sram (found 0 unread))
-      (printed-is : as_printed printed next-out ≡ printed_of (printing_after turn.ordinal (as_handling handled [])) (as_output out turn.used)) where
-    result_is : as_call_result record { turn = printed; session = handled.result.session } next-sram next-out ≡ printing_result (printing_from before unread) (as_output out turn.used)
-    result_is = result-printed before (found 0 unread) handled next-sram handled-is printed next-out (as_output out turn.used) printed-is
-
-    -- the turn that `replay_window::turn_behind` makes of it
-    pub turn-printed : (next : Turn) → next ≡ turn_behind turn.at printed
-        → as_call_result record { turn = next; session = handled.result.session } next-sram next-out
-        ≡ moved_on turn.at (printing_result (printing_from before unread) (as_output out turn.used))
-    turn-printed next e =
-        ap (λ (n : Turn). as_call_result record { turn = n; session = handled.result.session } next-sram next-out) e
-        ∙ ap (moved_on turn.at) result_is
-
-    pub turn_short : length (printing_after turn.ordinal (as_handling handled [])).text ≤ 96 → length (printing_from before unread).text ≤ 96
-    turn_short h = subst (λ (l : List ℕ). length l ≤ 96) (printing-text before (found 0 unread) handled next-sram handled-is) h
-
-    pub turn-within : turn.at + printed.at ≤ length window
-    turn-within =
-        let taken = ap (λ (l : CallResult). l.played.turn.at) result_is in
-        omega (arith, taken, (printing-within before unread).0, length-drop turn.at window, here.inside)

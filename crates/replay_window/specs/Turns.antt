@@ -2,7 +2,9 @@
 use Rattle.std.specs.Prelude.{ℕ, ◌+◌, List, Bool}
 use Rattle.replay_lines.specs.Output.{Output, appended}
 use Rattle.replay_window.specs.declared.Turn.{Turn}
+use Rattle.replay_record.specs.Beginning.{Carried}
 use Rattle.replay_window.specs.Printing.{Printing}
+use Rattle.replay_window.specs.Windows.{CallResult, as_call_result}
 
 -- a function that prints: the turn that it returns, and the output after it
 pub record Printed : Type 0 where
@@ -25,3 +27,16 @@ printed_of printing out = printed_at printing.taken printing.over printing.kept.
 abbrev pub turn_behind : ℕ → Turn → Turn
 turn_behind at printed =
     record { at = at + printed.at; used = printed.used; ended = printed.ended; ordinal = printed.ordinal }
+
+-- the result of a call on one record: its turn, and what is kept after it
+abbrev pub result_with : Printed → Carried → CallResult
+result_with printed kept =
+    as_call_result record { turn = printed.turn; session = kept.session } kept.sram printed.out
+
+abbrev pub printing_result : Printing → Output → CallResult
+printing_result printing out = result_with (printed_of printing out) printing.kept
+
+-- the same where its position counts from another position
+abbrev pub moved_on : ℕ → CallResult → CallResult
+moved_on at call =
+    as_call_result record { turn = turn_behind at call.played.turn; session = call.played.session } call.sram call.out

@@ -2,18 +2,17 @@
 // of the window is moved to its start.
 #![tactic(auto)]
 
-ghost use Rattle.std.specs.Prelude.{◌≡◌, true, false, ◌+◌, ◌-◌, ◌≤◌, ◌<◌, [], length, take};
-ghost use Rattle.session_answers.specs.Answers.{outcome_number};
-ghost use Rattle.replay_lines.specs.Lines.{record_line, last_line};
+ghost use Rattle.std.specs.Prelude.{◌≡◌, true, ◌+◌, ◌-◌, ◌≤◌, ◌<◌, length, take};
+ghost use Rattle.replay_lines.specs.Lines.{last_line};
 ghost use Rattle.replay_lines.specs.Output.{as_output, appended};
 ghost use Rattle.replay_record.specs.Beginning.{keeping};
-ghost use Rattle.replay_record.specs.Handling.{as_handling};
-ghost use Rattle.replay_window.specs.Printing.{echo_bytes, printing_after};
+ghost use Rattle.replay_window.specs.Printing.{echo_bytes, printing_from};
 ghost use Rattle.replay_window.specs.Windows.{ready_in, played_in, as_call_result, result_after, Continues, on_window, as_window_result, after_window};
-ghost use Rattle.replay_window.specs.Turns.{as_printed, printed_at, printed_of, turn_behind};
+ghost use Rattle.replay_window.specs.Turns.{as_printed, printed_at, printing_result, moved_on};
 
+use capture::Damaged;
 use replay_record::{Handled, Progress};
-use session_answers::{Answer, Echo};
+use session_answers::Echo;
 use session_state::{Session, Stage};
 
 // How far a call is: the next position in the window, how much of the output is used, whether the text has ended, and the ordinal of
@@ -33,86 +32,63 @@ pub struct Played {
     pub session: Session,
 }
 
-// The turn before the first record of a window.
-fn first_turn(ordinal: u64) -> Turn
-    ensures { result ≡ record { at = 0; used = 0; ended = false; ordinal = ordinal } }
-{
-    Turn {
-        at: 0,
-        used: 0,
-        ended: false,
-        ordinal: ordinal,
-    }
-}
-
-// The last line.
-fn print_last(out: &mut [u8], used: usize, ordinal: u64, stage: Stage) -> Turn
-    ensures { as_printed result out.new ≡ printed_at 0 true ordinal (appended (as_output out.old used) (last_line stage)) }
-{
-    Turn {
-        at: 0,
-        used: replay_lines::last_line(out, used, stage),
-        ended: true,
-        ordinal: ordinal,
-    }
-}
-
 // The bytes of an echo, at most eight.
 fn echo_bytes(echo: &Echo) -> &[u8]
     ensures value { result.now ≡ echo_bytes echo.now }
     ensures short { take 8 (echo_bytes echo.now) ≡ echo_bytes echo.now }
 {
-    let shown = (echo.length as usize).min(8);
+    let shown = usize::from(echo.length).min(8);
     &echo.bytes[..shown]
 }
 
-// The line of a record that was answered.
-fn print_record(out: &mut [u8], used: usize, ordinal: u64, taken: usize, answer: Answer) -> Turn
-    requires { ordinal < 0xFFFF_FFFF_FFFF_FFFF }
-    ensures printed { as_printed result out.new ≡ printed_at taken false (ordinal + 1) (appended (as_output out.old used) (record_line ordinal (outcome_number answer.outcome) (echo_bytes answer.echo))) }
-    ensures short_echo { length (echo_bytes answer.echo) ≤ 8 }
+// Prints the last line.
+fn end_text(out: &mut [u8], turn: Turn, stage: Stage) -> Turn
+    ensures { as_printed result out.new ≡ printed_at turn.at true turn.ordinal (appended (as_output out.old turn.used) (last_line stage)) }
 {
-    let outcome = answer.outcome;
-    let echo = answer.echo;
-    let number = u8::from(outcome);
     Turn {
-        at: taken,
-        used: replay_lines::record_line(out, used, ordinal, number, echo_bytes(&echo)),
-        ended: false,
-        ordinal: ordinal + 1,
+        used: replay_lines::last_line(out, turn.used, stage),
+        ended: true,
+        ..turn
     }
 }
 
-// Prints a record that was handled. Its text does not depend on SRAM, which the contract does not name.
-fn print_handled(handled: Handled, ordinal: u64, out: &mut [u8], used: usize) -> Turn
-    requires { (ordinal < 0xFFFF_FFFF_FFFF_FFFF) × (used + 96 ≤ length out.old) }
-    ensures printed { as_printed result out.new ≡ printed_of (printing_after ordinal (as_handling handled [])) (as_output out.old used) }
-    ensures short_text { length (printing_after ordinal (as_handling handled [])).text ≤ 96 }
+// Handles the record with which the bytes begin, and prints its line: of a bad one, and of the end mark, the last line.
+fn play_record(bytes: &[u8], before: Played, sram: &mut [u8], out: &mut [u8]) -> Played
+    requires ordinal { before.turn.ordinal < 0xFFFF_FFFF_FFFF_FFFF }
+    requires room { before.turn.used + 96 ≤ length out.old }
+    requires place { before.turn.at + length bytes.now < 0x1_0000_0000_0000_0000 }
+    ensures played { as_call_result result sram.new out.new
+        ≡ moved_on before.turn.at (printing_result (printing_from (keeping before.turn.ordinal before.session sram.old) bytes.now) (as_output out.old before.turn.used)) }
+    ensures short { length (printing_from (keeping before.turn.ordinal before.session sram.old) bytes.now).text ≤ 96 }
 {
-    let result = handled.result;
-    let answer = result.answer;
-    let session = result.session;
-    let stage = session.stage;
-    if handled.read != 0 {
-        let line_end = replay_lines::record_line(out, used, ordinal, handled.read, &[]);
-        return print_last(out, line_end, ordinal, stage);
-    }
-    if handled.kind == 0 {
-        return print_last(out, used, ordinal, stage);
-    }
-    print_record(out, used, ordinal, handled.taken, answer)
-}
-
-// The turn after a record that was read at a position of the window.
-fn turn_behind(at: usize, printed: Turn) -> Turn
-    requires { at + printed.at < 0x1_0000_0000_0000_0000 }
-    ensures { result ≡ turn_behind at printed }
-{
-    Turn {
-        at: at + printed.at,
-        used: printed.used,
-        ended: printed.ended,
-        ordinal: printed.ordinal,
+    let Played { turn, session } = before;
+    match replay_record::handle(bytes, session, sram) {
+        Ok(Some(Handled { record, result })) => {
+            let answer = result.answer;
+            let number = u8::from(answer.outcome);
+            let echo = echo_bytes(&answer.echo);
+            let turn = Turn {
+                at: turn.at + record.next,
+                used: replay_lines::record_line(out, turn.used, turn.ordinal, number, echo),
+                ended: false,
+                ordinal: turn.ordinal + 1,
+            };
+            Played {
+                turn,
+                session: result.session,
+            }
+        }
+        Ok(None) => Played {
+            turn: end_text(out, turn, session.stage),
+            session,
+        },
+        Err(Damaged) => {
+            let used = replay_lines::record_line(out, turn.used, turn.ordinal, 10, &[]);
+            Played {
+                turn: end_text(out, Turn { used, ..turn }, session.stage),
+                session,
+            }
+        }
     }
 }
 
@@ -120,9 +96,9 @@ fn turn_behind(at: usize, printed: Turn) -> Turn
 fn is_ready(window: &[u8], last: bool, turn: Turn, room: usize) -> bool
     ensures { result ≡ ready_in (length window.now - turn.at) last (room - turn.used) turn.ended turn.ordinal }
 {
-    let unread = octets::difference(window.len(), turn.at);
-    let free = octets::difference(room, turn.used);
-    !turn.ended & (last | (14 <= unread)) & (96 <= free) & (turn.ordinal < 0xFFFF_FFFF_FFFF_FFFF)
+    let unread = window.len().saturating_sub(turn.at);
+    let free = room.saturating_sub(turn.used);
+    !turn.ended && (last || 14 <= unread) && 96 <= free && turn.ordinal < u64::MAX
 }
 
 // The records of a window, from its start on, as long as the next one can be read and printed. The window is a part of the
@@ -139,20 +115,17 @@ pub fn play(
         ≡ result_after (played_in window.now last (length out.old) (keeping ordinal session sram.old)) out.old }
     ensures continues { Continues window.now last (keeping ordinal session sram.old) (as_call_result result sram.new out.new) }
 {
-    let mut turn = first_turn(ordinal);
-    let mut current = session;
-    while is_ready(window, last, turn, out.len()) {
-        let at = turn.at;
-        let handled = replay_record::handle(&window[at..], current, sram);
-        let result = handled.result;
-        current = result.session;
-        let printed = print_handled(handled, turn.ordinal, out, turn.used);
-        turn = turn_behind(at, printed);
+    let turn = Turn {
+        at: 0,
+        used: 0,
+        ended: false,
+        ordinal,
+    };
+    let mut played = Played { turn, session };
+    while is_ready(window, last, played.turn, out.len()) {
+        played = play_record(&window[played.turn.at..], played, sram, out);
     }
-    Played {
-        turn: turn,
-        session: current,
-    }
+    played
 }
 
 // Plays what can be played of a window, with its text at the start of the output, and moves what is unread to the window's start.
@@ -166,15 +139,13 @@ pub fn play_window(
     ensures { as_window_result result window.new sram.new out.new
         ≡ after_window (on_window window.old last (length out.old) (keeping progress.ordinal progress.session sram.old)) window.old out.old }
 {
-    let session = progress.session;
-    let played = play(window, last, progress.ordinal, session, sram, out);
+    let played = play(window, last, progress.ordinal, progress.session, sram, out);
     let turn = played.turn;
-    let next = played.session;
     Progress {
         used: turn.used,
         unread: buffers::slide(window, turn.at),
         ended: turn.ended,
         ordinal: turn.ordinal,
-        session: next,
+        session: played.session,
     }
 }
