@@ -47,18 +47,14 @@ fn boot_numbers(boot: Boot) -> [u32; 8]
     ]
 }
 
-// Writes a choice, where it is not refused, and returns its number.
+// Writes a choice: its numbers and the password selected.
 #[tactic(auto, using(buffers::proofs::Lending::fill_whole))]
-fn put_choice(fields: &mut [u32], password: &mut [u8], choice: Option<Choice>) -> u8
+fn put_choice(fields: &mut [u32], password: &mut [u8], choice: Choice)
     requires { (length fields.old ≡ 8) × (length password.old ≡ 8) }
-    ensures { as_choice_reply result fields.new password.new ≡ choice_leaves choice fields.old password.old }
+    ensures { as_choice_reply 0 fields.new password.new ≡ choice_leaves (Some choice) fields.old password.old }
 {
-    let Some(given) = choice else {
-        return 9; // nothing is written
-    };
-    buffers::fill(fields, &boot_numbers(given.boot));
-    buffers::fill(password, &given.password);
-    0
+    buffers::fill(fields, &boot_numbers(choice.boot));
+    buffers::fill(password, &choice.password);
 }
 
 // The boot choice: writes its 8 numbers and the 8 bytes of the password selected, and returns number 0; or returns number 9.
@@ -74,16 +70,20 @@ pub fn choose(
     ensures { as_choice_reply result fields.new password.new
         ≡ choice_answer bootcfg flash.now shadow.now external.now fields.old password.old }
 {
+    if fields.len() != 8 || password.len() != 8 {
+        return 9;
+    }
     let inputs = Inputs {
         bootcfg,
         flash,
         shadow,
         external,
     };
-    if (fields.len() == 8) & (password.len() == 8) {
-        return put_choice(fields, password, inputs.choose());
-    }
-    9
+    let Some(choice) = inputs.choose() else {
+        return 9; // nothing is written
+    };
+    put_choice(fields, password, choice);
+    0
 }
 
 // A fresh session, from the number of a way to boot and the password selected.
