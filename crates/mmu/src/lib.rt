@@ -103,9 +103,6 @@ pub fn session_rows(session: Session) -> Result<[Row; 5], NoRows>
     if !session_state::is_sound(session) {
         return Err(NoRows::UnsoundSession);
     }
-    let entered = session.configuration.entered;
-    rows_for(
-        Mode::Serial(entered),
-        session_state::accepted_vle(session.stage),
-    )
+    let mode = Mode::Serial(session.configuration.entered);
+    rows_for(mode, session_state::accepted_vle(session.stage))
 }
