@@ -14,6 +14,13 @@ pub record Flat : Type 0 where
 abbrev pub as_flat : List ℕ → List ℕ → Flat
 as_flat bytes numbers = record { bytes = bytes; numbers = numbers }
 
+-- places for so many bytes and so many numbers, and no more; and what is written in them, if there are such
+abbrev pub room_for : ℕ → ℕ → Flat → Bool
+room_for bytes numbers flat = eqb (length flat.bytes) bytes && eqb (length flat.numbers) numbers
+
+abbrev pub put : ℕ → ℕ → Flat → Flat → Flat
+put bytes numbers given flat = cond (room_for bytes numbers flat) given flat
+
 -- a flag is 0 or 1
 abbrev pub bit : Bool → ℕ
 bit flag = cond flag 1 0
@@ -55,7 +62,7 @@ answer_width = 5
 
 -- places for an answer; and an answer that is written: lists of other lengths are left as they are
 abbrev pub answer_places : Flat → Bool
-answer_places flat = eqb (length flat.bytes) echo_width && eqb (length flat.numbers) answer_width
+answer_places flat = room_for echo_width answer_width flat
 
 unfoldable pub answer_put : Answer → Flat → Flat
 answer_put answer flat = cond (answer_places flat) (answer_flat answer) flat

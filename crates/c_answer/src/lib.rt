@@ -2,7 +2,7 @@
 #![tactic(auto)]
 
 ghost use Rattle.std.specs.Prelude.{◌≡◌};
-ghost use Rattle.c_answer.specs.Writing.{bit, entered_number, entered_of, as_flat, jump_numbers, answer_numbers, answer_places, answer_put};
+ghost use Rattle.c_answer.specs.Writing.{bit, entered_number, entered_of, as_flat, room_for, put, jump_numbers, answer_numbers, answer_places, answer_put};
 
 use session_answers::{Answer, Outcome};
 use session_configuration::Entered;
@@ -16,13 +16,10 @@ pub const ANSWER_WIDTH: usize = 5;
 pub fn flag(is_set: bool) -> u32
     ensures { result ≡ bit is_set }
 {
-    if is_set {
-        return 1;
-    }
-    0
+    u32::from(is_set)
 }
 
-// The number of how serial boot was entered.
+// The number of how serial boot was entered. It is no `From`, nor is what reads it: `Entered` is of session_configuration, and its numbers are C's.
 pub fn entered_number(entered: Entered) -> u32
     ensures { result ≡ entered_number entered }
 {
@@ -44,23 +41,13 @@ pub fn entered_of(number: u32) -> Entered
     }
 }
 
-// A byte as a number.
-pub fn wide(byte: u8) -> u32
-    ensures { result ≡ byte }
-{
-    byte as u32
-}
-
 // The jump address and VLE of an outcome.
 fn jump_numbers(outcome: Outcome) -> [u32; 2]
     ensures { result ≡ jump_numbers outcome }
 {
     match outcome {
-        Outcome::Taken => [0; 2],
-        Outcome::Ignored => [0; 2],
-        Outcome::Stops(_) => [0; 2],
         Outcome::Jumps(jump) => [jump.start.0, flag(jump.vle)],
-        Outcome::Refused(_) => [0; 2],
+        _ => [0; 2],
     }
 }
 
@@ -68,23 +55,45 @@ fn jump_numbers(outcome: Outcome) -> [u32; 2]
 fn answer_numbers(answer: Answer) -> [u32; ANSWER_WIDTH]
     ensures { result ≡ answer_numbers answer }
 {
-    let outcome = answer.outcome;
-    let echo = answer.echo;
-    let jump = jump_numbers(outcome);
+    let [start, vle] = jump_numbers(answer.outcome);
     [
-        wide(u8::from(outcome)),
-        echo.identifier,
-        wide(echo.length),
-        jump[0],
-        jump[1],
+        u32::from(u8::from(answer.outcome)),
+        answer.echo.identifier,
+        u32::from(answer.echo.length),
+        start,
+        vle,
     ]
+}
+
+// Whether there are places for so many bytes and numbers, and no more. Bytes and numbers stay two parameters, as C lends them
+// (include/boot_assist.h): the clauses have the two as one `Flat`.
+pub fn has_room<const BYTES: usize, const NUMBERS: usize>(bytes: &[u8], numbers: &[u32]) -> bool
+    ensures { result ≡ room_for BYTES NUMBERS (as_flat bytes.now numbers.now) }
+{
+    bytes.len() == BYTES && numbers.len() == NUMBERS
+}
+
+// Writes bytes and numbers, where there are places for them.
+pub fn put<const BYTES: usize, const NUMBERS: usize>(
+    bytes: &mut [u8],
+    numbers: &mut [u32],
+    given_bytes: [u8; BYTES],
+    given_numbers: [u32; NUMBERS],
+)
+    ensures { as_flat bytes.new numbers.new
+        ≡ put BYTES NUMBERS (as_flat given_bytes.entry given_numbers.entry) (as_flat bytes.old numbers.old) }
+{
+    if has_room::<BYTES, NUMBERS>(bytes, numbers) {
+        bytes.copy_from_slice(&given_bytes);
+        numbers.copy_from_slice(&given_numbers);
+    }
 }
 
 // Whether there are places for an answer.
 pub fn has_places(echo: &[u8], answer: &[u32]) -> bool
     ensures { result ≡ answer_places (as_flat echo.now answer.now) }
 {
-    (echo.len() == ECHO_WIDTH) & (answer.len() == ANSWER_WIDTH)
+    has_room::<ECHO_WIDTH, ANSWER_WIDTH>(echo, answer)
 }
 
 // Writes an answer, where there are places for it.
@@ -92,11 +101,5 @@ pub fn put_answer(echo: &mut [u8], answer: &mut [u32], given: Answer)
     ensures { as_flat echo.new answer.new
         ≡ answer_put given (as_flat echo.old answer.old) }
 {
-    if has_places(echo, answer) {
-        let said = given.echo;
-        let bytes = said.bytes;
-        let numbers = answer_numbers(given);
-        buffers::fill(echo, &bytes[..]);
-        buffers::fill(answer, &numbers[..]);
-    }
+    put(echo, answer, given.echo.bytes, answer_numbers(given));
 }

@@ -5,13 +5,14 @@ use mathlib.Core.Path.{◌≡◌, refl, sym, ◌∙◌}
 use mathlib.Core.List.{List, ◌++◌, append-nil}
 use mathlib.Core.Bool.{Bool, true, false, cond, false≢true, and-eq-true_iff}
 use lib.Dec.{eqb}
-use lib.ListN.{length, drop, length-append, length-drop, drop_of_length-le, take-append-drop}
-use lib.Seq.{take_at}
-use borrow.Author.Tests.{eqb-true, le-leb}
+use lib.ListN.{length, drop, length-drop, drop_of_length-le, take-append-drop}
+use lib.Seq.{take_at, drop_at}
+use borrow.Author.Tests.{eqb-true}
+use borrow.Rule.Slice.PartMut.{put_mid}
+use Rattle.std.specs.Cmp.Lexicographic.{pointwise}
 use Rattle.octets.specs.Read.{first_eight}
 use Rattle.octets.specs.Same.{same}
-use Rattle.octets.proofs.Comparing.{same_equal}
-use Rattle.buffers.specs.Write.{over_from, filled}
+use Rattle.octets.proofs.Comparing.{same_pointwise, same_equal}
 use Rattle.buffers.proofs.Eight.{eight-take, eight-whole}
 use Rattle.session_state.specs.declared.Session.{Session}
 use Rattle.session_state.specs.declared.Stage.{Stage}
@@ -44,19 +45,29 @@ sixteen bytes e =
     let many : length (drop 8 bytes) ≡ 8 = length-drop 8 bytes ∙ omega arith in
     (λ i. eight-take bytes (omega arith) i ++ eight-whole (drop 8 bytes) many i) ∙ take-append-drop 8 bytes
 
--- a password and bytes held, written one behind the other over sixteen places
-pub halves : (selected held bytes : List ℕ) → length selected ≡ 8 → length held ≡ 8 → length bytes ≡ 16
-    → over_from 8 held (filled selected bytes) ≡ first_eight selected ++ first_eight held
-unfolding filled
-halves selected held bytes e f room =
-    let rest : length (selected ++ drop (length selected) bytes) ≡ 16 = length-append selected (drop (length selected) bytes) ∙ omega (arith, length-drop (length selected) bytes) in
+-- a password laid over the first half of sixteen places, and bytes held over the second
+pub halves : (selected held rest : List ℕ) → length selected ≡ 8 → length held ≡ 8 → length rest ≡ 8
+    → put_mid 8 8 (selected ++ rest) held ≡ first_eight selected ++ first_eight held
+halves selected held rest e f g =
     rw (
-      le-leb (length selected) (length bytes) (omega arith),
-      take_at selected (drop (length selected) bytes) 8 e,
-      drop_of_length-le (selected ++ drop (length selected) bytes) {i = 8 + length held} (omega arith),
+      take_at selected rest 8 e,
+      drop_at selected rest 8 e,
+      drop_of_length-le rest {i = 8} (omega arith),
       append-nil,
     )
     (sym (λ i. eight-whole selected e i ++ eight-whole held f i))
+
+-- with places for a session, what is read is it where it has those numbers, and else one that is not sound
+module _ (bytes numbers : List ℕ) (there : session_places (as_flat bytes numbers) ≡ true) where
+  pub read_same : pointwise eqb (session_numbers (session_read (as_flat bytes numbers))) numbers ≡ true
+      → session_in (as_flat bytes numbers) ≡ session_read (as_flat bytes numbers)
+  unfolding session_in encodes
+  read_same e = rw (there, rw same_pointwise at e)
+
+  pub read_other : pointwise eqb (session_numbers (session_read (as_flat bytes numbers))) numbers ≡ false
+      → session_in (as_flat bytes numbers) ≡ unsound_session numbers
+  unfolding session_in encodes
+  read_other e = rw (there, rw same_pointwise at e)
 
 -- bytes and numbers that read as a sound session are what it is written as
 pub record IsWritten (flat : Flat) : Type 0 where

@@ -20,10 +20,10 @@ pub const SESSION_WIDTH: usize = 9;
 pub fn has_places(bytes: &[u8], numbers: &[u32]) -> bool
     ensures { result ≡ session_places (as_flat bytes.now numbers.now) }
 {
-    (bytes.len() == SESSION_BYTES) & (numbers.len() == SESSION_WIDTH)
+    c_answer::has_room::<SESSION_BYTES, SESSION_WIDTH>(bytes, numbers)
 }
 
-// The number of a port.
+// The number of a port. Neither this nor the next is a `From`: both types are of session_state, and their numbers are C's.
 pub fn port_number(port: Port) -> u32
     ensures { result ≡ port_number port }
 {
@@ -52,12 +52,9 @@ fn port_in(stage: Stage) -> u32
     ensures { result ≡ port_in stage }
 {
     match stage {
-        Stage::Waiting => 0,
         Stage::Password => 1,
-        Stage::Header(port) => port_number(port),
-        Stage::Data(port, _) => port_number(port),
-        Stage::Stopped(_) => 0,
-        Stage::Jumped(_) => 0,
+        Stage::Header(port) | Stage::Data(port, _) => port_number(port),
+        _ => 0,
     }
 }
 
@@ -66,9 +63,6 @@ fn load_numbers(stage: Stage) -> [u32; 5]
     ensures { result ≡ load_numbers stage }
 {
     match stage {
-        Stage::Waiting => [0; 5],
-        Stage::Password => [0; 5],
-        Stage::Header(_) => [0; 5],
         Stage::Data(_, load) => [
             load.start.0,
             c_answer::flag(load.vle),
@@ -81,9 +75,10 @@ fn load_numbers(stage: Stage) -> [u32; 5]
             c_answer::flag(session_state::accepted_vle(stage)),
             0,
             0,
-            c_answer::wide(session_answers::refusal_number(refusal)),
+            u32::from(session_answers::refusal_number(refusal)),
         ],
         Stage::Jumped(jump) => [jump.start.0, c_answer::flag(jump.vle), 0, 0, 0],
+        _ => [0; 5],
     }
 }
 
@@ -91,62 +86,55 @@ fn load_numbers(stage: Stage) -> [u32; 5]
 fn configuration_numbers(configuration: Configuration) -> [u32; 1]
     ensures { result ≡ configuration_numbers configuration }
 {
-    let entered = configuration.entered;
-    [c_answer::entered_number(entered)]
+    [c_answer::entered_number(configuration.entered)]
 }
 
 // The numbers of a session.
 fn session_numbers(session: Session) -> [u32; SESSION_WIDTH]
     ensures { result ≡ session_numbers session }
 {
-    let stage = session.stage;
-    let configuration = session.configuration;
-    let load = load_numbers(stage);
-    let last = configuration_numbers(configuration);
+    let [start, vle, next, owed, refusal] = load_numbers(session.stage);
+    let [entered] = configuration_numbers(session.configuration);
     [
-        stage_number(stage),
-        port_in(stage),
-        c_answer::wide(session.count),
-        load[0],
-        load[1],
-        load[2],
-        load[3],
-        load[4],
-        last[0],
+        stage_number(session.stage),
+        port_in(session.stage),
+        u32::from(session.count),
+        start,
+        vle,
+        next,
+        owed,
+        refusal,
+        entered,
     ]
 }
 
-// Writes the bytes of a session: the password selected, and the bytes held.
-fn put_bytes(bytes: &mut [u8], session: Session)
-    requires { length bytes.old ≡ session_bytes_width }
-    ensures { bytes.new ≡ session_bytes session }
+// The bytes of a session: the password selected, and the bytes held.
+fn session_bytes(session: Session) -> [u8; SESSION_BYTES]
+    ensures { result ≡ session_bytes session }
 {
-    let configuration = session.configuration;
-    let selected = configuration.password;
-    let held = session.held;
-    buffers::fill(bytes, &selected[..]);
-    buffers::fill(&mut bytes[8..], &held[..]);
+    let mut bytes = [0; SESSION_BYTES];
+    bytes[..8].copy_from_slice(&session.configuration.password);
+    bytes[8..].copy_from_slice(&session.held);
+    bytes
 }
 
 // Writes a session, where there are places for it.
 pub fn put_session(bytes: &mut [u8], numbers: &mut [u32], session: Session)
     ensures { Written session (as_flat bytes.old numbers.old) (as_flat bytes.new numbers.new) }
 {
-    if has_places(bytes, numbers) {
-        put_bytes(bytes, session);
-        let written = session_numbers(session);
-        buffers::fill(numbers, &written[..]);
-    }
+    c_answer::put(
+        bytes,
+        numbers,
+        session_bytes(session),
+        session_numbers(session),
+    );
 }
 
 // The number at a place, or 0 past the end.
 pub fn number_at(numbers: &[u32], at: usize) -> u32
     ensures { result ≡ number_at numbers.now at }
 {
-    if numbers.len() <= at {
-        return 0;
-    }
-    numbers[at]
+    numbers.get(at).copied().unwrap_or(0)
 }
 
 // The port, the load, the refusal and the jump that a stage may have.
@@ -155,9 +143,10 @@ fn read_port(numbers: &[u32]) -> Port
     ensures { result ≡ port_read numbers.now }
 {
     if number_at(numbers, 1) == 0 {
-        return Port::Can;
+        Port::Can
+    } else {
+        Port::Serial
     }
-    Port::Serial
 }
 
 fn read_load(numbers: &[u32]) -> Load
@@ -175,8 +164,7 @@ fn read_load(numbers: &[u32]) -> Load
 fn read_refusal(numbers: &[u32]) -> Refusal
     ensures { result ≡ refusal_read numbers.now }
 {
-    let number = number_at(numbers, 7);
-    match number {
+    match number_at(numbers, 7) {
         2 => Refusal::Password,
         3 => Refusal::Length,
         4 => Refusal::Range,
@@ -198,8 +186,7 @@ fn read_jump(numbers: &[u32]) -> Jump
 fn read_stage(numbers: &[u32]) -> Stage
     ensures { result ≡ stage_read numbers.now }
 {
-    let number = number_at(numbers, 0);
-    match number {
+    match number_at(numbers, 0) {
         0 => Stage::Waiting,
         1 => Stage::Password,
         2 => Stage::Header(read_port(numbers)),
@@ -224,30 +211,13 @@ fn decode(bytes: &[u8], numbers: &[u32]) -> Session
     requires { length bytes.now ≡ session_bytes_width }
     ensures { result ≡ session_read (as_flat bytes.now numbers.now) }
 {
-    let held = buffers::eight_of(&bytes[8..16]);
+    let (selected, held) = bytes.split_at(8);
     Session {
-        configuration: configuration_in(buffers::eight_of(&bytes[0..8]), numbers),
+        configuration: configuration_in(buffers::eight_of(selected), numbers),
         stage: read_stage(numbers),
-        held: held,
+        held: buffers::eight_of(held),
         count: (number_at(numbers, 2) % 256) as u8,
     }
-}
-
-// Whether a session's numbers are those of a list.
-fn is_same(a: [u32; SESSION_WIDTH], b: &[u32]) -> bool
-    ensures { result ≡ same a b.now }
-{
-    if b.len() != SESSION_WIDTH {
-        return false;
-    }
-    let mut i: usize = 0;
-    while i < SESSION_WIDTH {
-        if a[i] != b[i] {
-            return false;
-        }
-        i = i + 1;
-    }
-    true
 }
 
 // A session that is not sound: waiting, with a byte held.
@@ -263,6 +233,7 @@ fn unsound(numbers: &[u32]) -> Session
 }
 
 // The session of bytes and numbers, or one that is not sound where no session has them.
+#[tactic(auto, using(crate::proofs::Lengths::read_same, crate::proofs::Lengths::read_other), unfolding(crate::specs::Reading::session_in, crate::specs::Reading::encodes))]
 pub fn read_session(bytes: &[u8], numbers: &[u32]) -> Session
     ensures { result ≡ session_in (as_flat bytes.now numbers.now) }
 {
@@ -270,8 +241,9 @@ pub fn read_session(bytes: &[u8], numbers: &[u32]) -> Session
         return unsound(numbers);
     }
     let read = decode(bytes, numbers);
-    if is_same(session_numbers(read), numbers) {
-        return read;
+    if session_numbers(read).as_slice() == numbers {
+        read
+    } else {
+        unsound(numbers)
     }
-    unsound(numbers)
 }

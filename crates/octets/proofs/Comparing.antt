@@ -1,15 +1,21 @@
--- Lists that are the same, and those of other lengths, which are not; and two lists from a place on: the next numbers are equal, or not, or none is left.
-use Prim.Native.Nat.{ℕ, ◌+◌, ◌≤◌, ◌<◌}
-use native.Mathlib.Numerals.{add-one}
-use mathlib.Core.Path.{◌≡◌, refl, ap}
+-- Lists that are the same, by the library's comparison and by their equation; and two lists from a place on where none is left.
+use Prim.Native.Nat.{ℕ, ◌≤◌}
+use mathlib.Core.Path.{◌≡◌, refl}
 use mathlib.Core.List.{List, [], ◌∷◌}
-use mathlib.Core.Bool.{true, false, false≢true, and-eq-true_iff}
-use borrow.Author.Tests.{eqb-true, eq-eqb, ne_eqb}
+use mathlib.Core.Bool.{true, false≢true, and-eq-true_iff}
+use borrow.Author.Tests.{eqb-true, eq-eqb}
 use lib.Dec.{eqb}
-use lib.ListN.{length, get_or, drop, drop_of_length-le}
-use lib.Seq.{drop-cons}
+use lib.ListN.{length, drop, drop_of_length-le}
+use Rattle.std.specs.Cmp.Lexicographic.{pointwise}
 use Rattle.octets.specs.Same.{same}
-use Rattle.octets.proofs.Cases.{untrue}
+
+-- what `==` of two slices of numbers says
+pub same_pointwise : (l m : List ℕ) → pointwise eqb l m ≡ same l m
+unfolding same
+same_pointwise [] [] = refl
+same_pointwise [] (b ∷ m) = refl
+same_pointwise (a ∷ l) [] = refl
+same_pointwise (a ∷ l) (b ∷ m) = rw (same_pointwise l m)
 
 pub same_equal : (l m : List ℕ) → same l m ≡ true → l ≡ m
 unfolding same
@@ -25,26 +31,7 @@ unfolding same
 same_own [] = refl
 same_own (a ∷ l) = rw (eq-eqb a a refl, same_own l)
 
-pub same_length : (l m : List ℕ) → (length l ≡ length m → ⊥) → same l m ≡ false
-same_length l m h = untrue (same l m) (λ e. h (ap length (same_equal l m e)))
-
-module _ (a b : List ℕ) (i : ℕ) where
-  pub same_on
-      : i < length a
-      → i < length b
-      → get_or a i 0 ≡ get_or b i 0
-      → same (drop i a) (drop i b) ≡ same (drop (i + 1) a) (drop (i + 1) b)
-  unfolding same
-  same_on h k e = rw (drop-cons a i 0, drop-cons b i 0, eq-eqb (get_or a i 0) (get_or b i 0) e, add-one)
-
-  pub same_differs
-      : i < length a
-      → i < length b
-      → (get_or a i 0 ≡ get_or b i 0 → ⊥)
-      → same (drop i a) (drop i b) ≡ false
-  unfolding same
-  same_differs h k e = rw (drop-cons a i 0, drop-cons b i 0, ne_eqb (get_or a i 0) (get_or b i 0) e)
-
-  pub same_none : length a ≤ i → length b ≤ i → same (drop i a) (drop i b) ≡ true
-  unfolding same
-  same_none h k = rw (drop_of_length-le a, drop_of_length-le b)
+-- from a place on where none is left
+pub same_none : (a b : List ℕ) (i : ℕ) → length a ≤ i → length b ≤ i → same (drop i a) (drop i b) ≡ true
+unfolding same
+same_none a b i h k = rw (drop_of_length-le a, drop_of_length-le b)
