@@ -6,6 +6,7 @@ use mathlib.Core.List.{List, [], ◌∷◌}
 use mathlib.Core.Bool.{Bool, true, false, cond}
 use Rattle.std.specs.Prelude.{Option, Some, None}
 use lib.ListN.{length, get_or}
+use Rattle.octets.proofs.Cases.{by_test}
 use Rattle.boot_table.specs.declared.Asked.{Asked}
 use Rattle.boot_table.specs.declared.Row.{Row}
 use Rattle.boot_table.specs.Table.{asked_by, row_for}
@@ -52,19 +53,14 @@ more memory p places n None examined e w =
 abbrev Finds : List ℕ → List ℕ → ℕ → Search → Type 0
 Finds memory places n search = Walked memory places n search.found search.examined
 
-step
-    : (memory : List ℕ) (p : ℕ) (places : List ℕ) (n : ℕ) (rest : Search) (test : Bool)
-    → good_place memory p ≡ test
-    → Finds memory places (n + 1) rest
-    → Finds memory (p ∷ places) n (cond test (record { found = Some p; examined = n + 1 }) rest)
-step memory p places n rest true e w = (0, omega arith, omega arith, refl, e, λ i h. absurd (omega arith))
-step memory p places n rest false e w = more memory p places n rest.found rest.examined e w
-
 search_finds : (memory : List ℕ) (n : ℕ) (places : List ℕ) → Finds memory places n (searched memory n places)
 unfolding searched
 search_finds memory n [] = (omega arith, λ i h. absurd (omega arith))
 search_finds memory n (p ∷ places) =
-    step memory p places n (searched memory (n + 1) places) (good_place memory p) refl (search_finds memory (n + 1) places)
+    let rest = searched memory (n + 1) places in
+    by_test (Finds memory (p ∷ places) n) (record { found = Some p; examined = n + 1 }) rest (good_place memory p)
+    (λ e. (0, omega arith, omega arith, refl, e, λ i h. absurd (omega arith)))
+    (λ e. more memory p places n rest.found rest.examined e (search_finds memory (n + 1) places))
 
 -- The claim's other fields, of an answer with number n.
 record Answered (flash : List ℕ) (n : ℕ) (c : Option Choice) : Type 0 where

@@ -33,7 +33,7 @@ fn put_rows(out: &mut [u32], rows: [Row; 5])
     buffers::fill(out, numbers.as_flattened());
 }
 
-// Writes the rows, where they are not refused and the output has its length, and returns the number.
+// Writes the rows, where they are not refused and the output has its length, and returns the number that C gets.
 fn put_mapping(rows: &mut [u32], mapping: Result<[Row; 5], NoRows>) -> u8
     ensures { as_rows_reply result rows.new ≡ rows_leave mapping rows.old }
 {
