@@ -7,6 +7,7 @@ ghost use Rattle.c_sender.specs.Numbers.{sender_places, SenderEncoding, item_pla
 ghost use Rattle.c_load.specs.Calls.{as_begin_reply, reply_to_begin, as_ask_reply, reply_to_ask, as_tell_reply, reply_to_tell};
 
 use c_sender::{ITEM_BYTES, ITEM_WIDTH, SENDER_BYTES, SENDER_WIDTH};
+use sender_echo::Heard;
 use sender_load::{Sender, Sent};
 
 // Whether there are places for so many bytes and numbers, and no more.
@@ -111,9 +112,13 @@ pub fn tell(
     if !has_places::<SENDER_BYTES, SENDER_WIDTH>(sender_bytes, sender) {
         return 8;
     }
-    let heard = c_sender::port_of(port);
+    let heard = Heard {
+        port: c_sender::port_of(port),
+        identifier,
+        bytes,
+    };
     let mut next = c_sender::read_sender(sender_bytes, sender);
-    let told = sender::tell(&mut next, image, heard, identifier, bytes);
+    let told = sender::tell(&mut next, image, heard);
     if let Ok(says) = told {
         if port > 1 {
             return 9;

@@ -5,6 +5,7 @@ ghost use Rattle.std.specs.Prelude.{◌≡◌, Ok, true, length};
 ghost use Rattle.sender_load.specs.Items.{sound_load};
 ghost use Rattle.sender.specs.Calls.{begun_number, unheard_number, answer_number, head_with, idle, load_begun, heeded, as_reply, asked, echo_told, told};
 
+use sender_echo::Heard;
 use sender_load::{Sender, Sent};
 use session_configuration::{Configuration, Entered};
 use session_state::{Port, Refusal};
@@ -149,23 +150,17 @@ fn move_on(sender: &mut Sender, image: &[u8]) -> Verdict
     Verdict::GoesOn
 }
 
-// Tells what was heard at a port: the bytes of an echo, of CAN under an identifier, which is not looked at for serial.
+// Tells what was heard.
 #[tactic(auto, unfolding(crate::specs::Calls::heeded, crate::specs::Calls::told))]
-pub fn tell(
-    sender: &mut Sender,
-    image: &[u8],
-    port: Port,
-    identifier: u32,
-    bytes: &[u8],
-) -> Result<Verdict, Unheard>
-    ensures { as_reply result sender.new ≡ told sender.old image.now port identifier bytes.now }
+pub fn tell(sender: &mut Sender, image: &[u8], heard: Heard) -> Result<Verdict, Unheard>
+    ensures { as_reply result sender.new ≡ told sender.old image.now heard.entry.port heard.entry.identifier heard.entry.bytes.now }
 {
     heed(*sender, image)?;
     if !sender.out {
         return Err(Unheard::Ignored);
     }
     let due = sender.echo_due(image);
-    if sender_echo::is_echo(sender.port, due, port, identifier, bytes) {
+    if sender_echo::is_echo(sender.port, due, heard) {
         return Ok(move_on(sender, image));
     }
     *sender = no_load();

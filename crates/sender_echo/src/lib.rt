@@ -7,6 +7,14 @@ ghost use Rattle.sender_echo.specs.Hearing.{heard_under, is_echo};
 use session_answers::Echo;
 use session_state::Port;
 
+// What is heard at a port: bytes, by CAN under an identifier, which is not looked at for serial.
+#[derive(Clone, Copy)]
+pub struct Heard<'a> {
+    pub port: Port,
+    pub identifier: u32,
+    pub bytes: &'a [u8],
+}
+
 // Whether an echo heard at a port is that of the load's port, under the identifier due.
 fn is_heard_under(port: Port, heard: Port, due: u32, identifier: u32) -> bool
     ensures { result ≡ heard_under port heard due identifier }
@@ -20,9 +28,10 @@ fn is_heard_under(port: Port, heard: Port, due: u32, identifier: u32) -> bool
 
 // Whether what is heard is the echo due.
 #[tactic(auto, using(octets::proofs::Taking::take_least, crate::proofs::Bytes::same_pointwise), unfolding(crate::specs::Hearing::is_echo))]
-pub fn is_echo(port: Port, due: Echo, heard: Port, identifier: u32, bytes: &[u8]) -> bool
-    ensures { result ≡ is_echo port due heard identifier bytes.now }
+pub fn is_echo(port: Port, due: Echo, heard: Heard) -> bool
+    ensures { result ≡ is_echo port due heard.entry.port heard.entry.identifier heard.entry.bytes.now }
 {
-    let count = octets::least(due.length as usize, 8);
-    is_heard_under(port, heard, due.identifier, identifier) && bytes == &due.bytes[..count]
+    let count = octets::least(usize::from(due.length), 8);
+    is_heard_under(port, heard.port, due.identifier, heard.identifier)
+        && heard.bytes == &due.bytes[..count]
 }

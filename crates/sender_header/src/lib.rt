@@ -19,7 +19,7 @@ fn length_word(vle: bool, length: u32) -> u32
     length % 0x8000_0000
 }
 
-// The 8 bytes of a header.
+// The 8 bytes of a header. The start, the VLE bit and the length stay parameters: here a length has 32 bits, and below it may have any size.
 pub fn write(configuration: Configuration, start: u32, vle: bool, length: u32) -> [u8; 8]
     ensures { Written configuration start vle length result }
 {
