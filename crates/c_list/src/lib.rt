@@ -27,6 +27,7 @@ struct Items<'a> {
 
 impl Items<'_> {
     // Whether each kind and count is an item's, and the counts add up to the bytes.
+    #[tactic(auto, using(crate::proofs::Handing::parts_next), unfolding(crate::specs::Calls::parts_fit))]
     fn parts_fit(&self) -> bool
         requires { length self.now.counts.now ≡ length self.now.kinds.now }
         ensures { result ≡ parts_fit self.now.kinds.now self.now.counts.now (length self.now.bytes.now) }
@@ -97,7 +98,7 @@ fn hand_in_at(
         &mut echoes[from..from + ECHO_WIDTH],
         &mut answers[at..at + ANSWER_WIDTH],
     );
-    if number == 6 {
+    if number == u8::from(Fault::Form) {
         put_refused(echoes, answers, i);
     }
 }

@@ -95,6 +95,7 @@ fn advance(session: Session, port: Port, load: Load, bytes: &[u8]) -> Transition
 }
 
 // The bytes held with more behind them.
+#[tactic(auto, using(crate::proofs::Holding::held_back))]
 fn gather(session: Session, bytes: &[u8]) -> [u8; 8]
     requires { session.count + length bytes.now ≤ 8 }
     ensures { result ≡ over (received session bytes.now) session.held }
