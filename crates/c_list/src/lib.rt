@@ -27,19 +27,17 @@ struct Items<'a> {
 
 impl Items<'_> {
     // Whether each kind and count is an item's, and the counts add up to the bytes.
-    #[tactic(auto, using(crate::proofs::Handing::parts_next), unfolding(crate::specs::Calls::parts_fit))]
+    #[tactic(auto, unfolding(crate::specs::Calls::parts_fit))]
     fn parts_fit(&self) -> bool
         requires { length self.now.counts.now ≡ length self.now.kinds.now }
         ensures { result ≡ parts_fit self.now.kinds.now self.now.counts.now (length self.now.bytes.now) }
     {
-        let counts = self.counts;
         let mut left = self.bytes.len();
-        for (i, kind) in self.kinds.iter().enumerate() {
-            let count = counts[i] as usize;
-            if !session_items::is_item(*kind, counts[i]) || left < count {
+        for (kind, count) in self.kinds.iter().zip(self.counts) {
+            if !session_items::is_item(*kind, *count) || left < *count as usize {
                 return false;
             }
-            left -= count;
+            left -= *count as usize;
         }
         left == 0
     }
