@@ -58,8 +58,7 @@ impl Line {
         self.bytes[self.start..end].copy_from_slice(text);
     }
 
-    // The digits of a number. Of what `Display` writes std promises that it is right where it succeeds, and not that it succeeds, so they are put
-    // by hand.
+    // The digits of a number, by hand: std promises what `Display` writes where it succeeds, and not that it succeeds.
     #[tactic(auto, using(crate::proofs::Laws::digit_room, crate::proofs::Laws::digit_last))]
     fn put_decimal(&mut self, n: u64)
         requires { length self.old + 20 ≤ 64 }
@@ -73,16 +72,20 @@ impl Line {
         self.put_byte(b'0' + rest as u8);
     }
 
-    // The digits of several bytes.
+    // The digits of several bytes. Where they start is a variable here: a line's own field would be stored at each digit, which took a third
+    // more instructions for a CAN record.
     #[tactic(auto, using(crate::proofs::Laws::hex_room, crate::proofs::Laws::hex_more))]
     fn put_hex(&mut self, bytes: &[u8])
         requires { 2 * length bytes.now + length self.old ≤ 64 }
         ensures { self.new ≡ hex_of bytes.now ++ self.old }
     {
+        let mut start = self.start;
         for byte in bytes.iter().rev() {
-            self.put_byte(hex_digit(*byte % 16));
-            self.put_byte(hex_digit(*byte / 16));
+            start -= 2;
+            self.bytes[start + 1] = hex_digit(*byte % 16);
+            self.bytes[start] = hex_digit(*byte / 16);
         }
+        self.start = start;
     }
 
     // The echo, or "-" where there is none.
@@ -97,20 +100,19 @@ impl Line {
         }
     }
 
-    // A record's line.
+    // A record's line, in an empty one: a line that is returned is copied twice.
     #[tactic(auto, using(crate::proofs::Laws::piece_lengths))]
-    fn of_record(ordinal: u64, answer: u8, echo: &[u8]) -> Line
-        requires { length echo.now ≤ 8 }
-        ensures { result ≡ record_line ordinal answer echo.now }
+    fn put_record(&mut self, ordinal: u64, answer: u8, echo: &[u8])
+        requires line { self.old ≡ [] }
+        requires short { length echo.now ≤ 8 }
+        ensures { self.new ≡ record_line ordinal answer echo.now }
     {
-        let mut line = Line::new();
-        line.put(b"\n");
-        line.put_echo(echo);
-        line.put(b" ");
-        line.put_decimal(u64::from(answer));
-        line.put(b" ");
-        line.put_decimal(ordinal);
-        line
+        self.put(b"\n");
+        self.put_echo(echo);
+        self.put(b" ");
+        self.put_decimal(u64::from(answer));
+        self.put(b" ");
+        self.put_decimal(ordinal);
     }
 }
 
@@ -147,8 +149,8 @@ impl From<Stage> for Line {
     }
 }
 
-// Puts text behind what is there already, or nothing where it has no room, and returns how many bytes are used then. The output and that
-// number stay two parameters: in a struct with the reference, each function here and in `replay_window` would owe a clause that it keeps it.
+// Puts text behind what is there already, or nothing where it has no room, and returns how many bytes are used then.
+// The output and that number stay two parameters: with both in a struct, each contract would also say that it keeps the reference.
 #[tactic(auto, unfolding(crate::specs::Output::appended))]
 fn append(out: &mut [u8], used: usize, text: &[u8]) -> usize
     ensures { as_output out.new result ≡ appended (as_output out.old used) text.now }
@@ -166,7 +168,9 @@ pub fn record_line(out: &mut [u8], used: usize, ordinal: u64, answer: u8, echo: 
     ensures { as_output out.new result ≡ appended (as_output out.old used) (record_line ordinal answer (take 8 echo.now)) }
 {
     let shown = &echo[..echo.len().min(8)];
-    append(out, used, Line::of_record(ordinal, answer, shown).text())
+    let mut line = Line::new();
+    line.put_record(ordinal, answer, shown);
+    append(out, used, line.text())
 }
 
 // Appends the last line.
