@@ -34,9 +34,8 @@ pub fn slide(s: &mut [u8], from: usize) -> usize
     ensures count { result ≡ length s.old - from }
     ensures contents { s.new ≡ over (drop from s.old) s.old }
 {
-    if s.len() < from {
-        return 0;
+    if from <= s.len() {
+        s.copy_within(from.., 0);
     }
-    s.copy_within(from.., 0);
-    s.len() - from
+    octets::difference(s.len(), from)
 }

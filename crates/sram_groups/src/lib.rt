@@ -81,7 +81,7 @@ pub fn store(
 )
     ensures { sram.new ≡ stored_within configuration «last» sram.old address (take count held ++ bytes.now) }
 {
-    let few = usize::from(count).min(8);
+    let few = octets::least(usize::from(count), 8);
     let from = (address % 8) as usize;
     if bytes.len() <= 16 - (from + few) {
         store_full(configuration, sram, address, &held[..few], bytes, last);

@@ -14,10 +14,10 @@ returns-then-bytes-from c =
     let many = together-length a.count a.held a.bytes.now eight in
     rw (
       c.store_full.ensures,
-      c.min-few.ensures,
+      c.least-few.ensures,
       c.from.ensures,
       take_least a.count 8 a.held eight,
-      le-leb (a.address % 8 + length (take a.count a.held ++ a.bytes.now)) 16 (omega (arith, c.if-bytes-from.true, c.min-few.ensures, many)),
+      le-leb (a.address % 8 + length (take a.count a.held ++ a.bytes.now)) 16 (omega (arith, c.if-bytes-from.true, c.least-few.ensures, many)),
     )
 
 pub returns-else-bytes-from : goal.returns-else-bytes-from
@@ -25,4 +25,4 @@ unfolding stored_within
 returns-else-bytes-from c =
     let a = c.args in
     let many = together-length a.count a.held a.bytes.now (search rules) in
-    rw (lt-leb (a.address % 8 + length (take a.count a.held ++ a.bytes.now)) 16 (omega (arith, c.if-bytes-from.false, c.min-few.ensures, many)))
+    rw (lt-leb (a.address % 8 + length (take a.count a.held ++ a.bytes.now)) 16 (omega (arith, c.if-bytes-from.false, c.least-few.ensures, many)))
