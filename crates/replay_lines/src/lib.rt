@@ -74,7 +74,7 @@ impl Line {
 
     // The digits of several bytes. Where they start is a variable here: a line's own field would be stored at each digit, which took a third
     // more instructions for a CAN record.
-    #[tactic(auto, using(crate::proofs::Laws::hex_room, crate::proofs::Laws::hex_more))]
+    #[tactic(auto, using(crate::proofs::Laws::hex_room))]
     fn put_hex(&mut self, bytes: &[u8])
         requires { 2 * length bytes.now + length self.old ≤ 64 }
         ensures { self.new ≡ hex_of bytes.now ++ self.old }
