@@ -2,7 +2,7 @@
 #![tactic(auto)]
 
 ghost use Rattle.std.specs.Prelude.{◌≡◌, IfOk, IfSome};
-ghost use Rattle.capture.specs.Records.{kind_number, kind_under, fits_kind, fits_can, as_header, header_found, reads, body_at, beyond, as_read};
+ghost use Rattle.capture.specs.Records.{kind_of, kind_number, kind_under, fits_kind, fits_can, good_record, as_header, header_found, reads, body_at, beyond, as_read};
 ghost use Rattle.capture.specs.Located.{located_at, as_located};
 
 // The kind of a record.
@@ -75,19 +75,30 @@ impl Kind {
     }
 }
 
+// Whether the bytes begin with a record that is whole and keeps the rules, where its kind is this one.
+#[tactic(auto, unfolding(crate::specs::Records::good_record))]
+fn is_good_record(bytes: &[u8], kind: Kind) -> bool
+    requires { kind_number kind ≡ kind_of bytes.now }
+    ensures { result ≡ good_record bytes.now }
+{
+    let length = octets::half(bytes, 0);
+    2 + usize::from(length) <= bytes.len()
+        && octets::byte(bytes, 2) == 1
+        && kind.fits(length)
+        && kind.fits_can(octets::half(bytes, 4))
+}
+
 // The header of the record with which the bytes begin: its kind, and how many bytes its body has.
 #[tactic(auto, unfolding(crate::specs::Records::header_found, crate::specs::Records::good_record))]
 fn find_header(bytes: &[u8]) -> Result<(Kind, usize), Damaged>
     ensures { as_header result ≡ header_found bytes.now }
 {
-    let length = octets::half(bytes, 0);
     let kind = Kind::try_from(octets::byte(bytes, 3))?;
-    let whole = 2 + usize::from(length) <= bytes.len();
-    let versioned = octets::byte(bytes, 2) == 1;
-    if whole && versioned && kind.fits(length) && kind.fits_can(octets::half(bytes, 4)) {
-        return Ok((kind, usize::from(length).saturating_sub(2)));
+    if !is_good_record(bytes, kind) {
+        return Err(Damaged);
     }
-    Err(Damaged)
+    let length = usize::from(octets::half(bytes, 0));
+    Ok((kind, length.saturating_sub(2)))
 }
 
 // The record at a place, or none at the end of the capture.

@@ -22,7 +22,7 @@ use Rattle.replay_record.specs.Handling.{Handling, as_handling, handling_of}
 use Rattle.replay_record.specs.Beginning.{Carried, keeping}
 use Rattle.replay_record.proofs.Laws.{counted}
 use Rattle.replay_window.specs.declared.Turn.{Turn}
-use Rattle.replay_window.specs.Printing.{echo_bytes, recorded, closing, ends, printing_of, printing_after}
+use Rattle.replay_window.specs.Printing.{Printing, echo_bytes, recorded, closing, ends, printing_after}
 use Rattle.replay_window.specs.Windows.{as_call_result}
 use Rattle.replay_window.specs.Turns.{Printed, as_printed, printed_at, printing_result, moved_on}
 
@@ -44,6 +44,9 @@ module _ (kept : Carried) (read : Read) (sram' : List ℕ) where
   abbrev after : Carried
   after = keeping kept.ordinal kept.session sram'
 
+  abbrev printing : Printing
+  printing = printing_after kept.ordinal (handling_of kept.session kept.sram read)
+
   abbrev Told : OkOrErr (Option Handled) Damaged → Type 0
   Told result = as_handling kept.session result sram' ≡ handling_of kept.session kept.sram read
 
@@ -54,21 +57,21 @@ module _ (kept : Carried) (read : Read) (sram' : List ℕ) where
   bad_line = record_line kept.ordinal 10 []
 
   printing_record : (handled : Handled) → Told (Ok (Some handled))
-      → recorded (keeping kept.ordinal handled.result.session sram') handled.record.next (result_of handled.result sram') ≡ printing_of kept read
-  unfolding printing_of printing_after
+      → recorded (keeping kept.ordinal handled.result.session sram') handled.record.next (result_of handled.result sram') ≡ printing
+  unfolding printing_after
   printing_record handled told = rw (← told, counted handled.record.kind) refl
 
-  printing_end : Told (Ok None) → ends after (closing after) ≡ printing_of kept read
-  unfolding printing_of printing_after
+  printing_end : Told (Ok None) → ends after (closing after) ≡ printing
+  unfolding printing_after
   printing_end told = rw (← told) refl
 
-  printing_bad : Told (Err record {}) → ends after (bad_line ++ closing after) ≡ printing_of kept read
-  unfolding printing_of printing_after
+  printing_bad : Told (Err record {}) → ends after (bad_line ++ closing after) ≡ printing
+  unfolding printing_after
   printing_bad told = rw (← told) refl
 
   pub record_short : (handled : Handled) → Told (Ok (Some handled))
       → take 8 (echo_bytes handled.result.answer.echo) ≡ echo_bytes handled.result.answer.echo
-      → length (printing_of kept read).text ≤ 96
+      → length printing.text ≤ 96
   record_short handled told cut =
       let answer = handled.result.answer in
       let echo = echo_bytes answer.echo in
@@ -76,13 +79,13 @@ module _ (kept : Carried) (read : Read) (sram' : List ℕ) where
       rw (← printing_record handled told)
       (omega (arith, record_length kept.ordinal (outcome_number answer.outcome) echo short))
 
-  pub end_short : Told (Ok None) → length (printing_of kept read).text ≤ 96
+  pub end_short : Told (Ok None) → length printing.text ≤ 96
   end_short told = rw (← printing_end told) (omega (arith, last_length kept.session.stage))
 
   bad_long : length bad_line + length (closing after) ≤ 96
   bad_long = omega (arith, record_length kept.ordinal 10 [] (omega arith), last_length kept.session.stage)
 
-  pub bad_short : Told (Err record {}) → length (printing_of kept read).text ≤ 96
+  pub bad_short : Told (Err record {}) → length printing.text ≤ 96
   bad_short told = rw (← printing_bad told) (omega (arith, bad_long, length-append bad_line (closing after)))
 
   -- a call at a position, on an output of which so many bytes are used
@@ -90,7 +93,7 @@ module _ (kept : Carried) (read : Read) (sram' : List ℕ) where
     abbrev Played_as : Turn → Session → Type 0
     Played_as turn session =
         as_call_result record { turn = turn; session = session } sram' out'
-        ≡ moved_on at (printing_result (printing_of kept read) (as_output bytes used))
+        ≡ moved_on at (printing_result printing (as_output bytes used))
 
     pub record_played : (handled : Handled) → Told (Ok (Some handled)) → (used' : ℕ)
         → as_output out' used' ≡ appended (as_output bytes used) (line_of handled.result)
@@ -100,7 +103,7 @@ module _ (kept : Carried) (read : Read) (sram' : List ℕ) where
         (ap (λ (o : Output). as_call_result record { turn = record { at = at + handled.record.next; used = o.used; ended = false; ordinal = kept.ordinal + 1 }; session = handled.result.session } sram' o.bytes) e)
 
     -- a text that ends here
-    ended_played : (text : List ℕ) (turn : Turn) → ends after text ≡ printing_of kept read
+    ended_played : (text : List ℕ) (turn : Turn) → ends after text ≡ printing
         → as_printed turn out' ≡ printed_at at true kept.ordinal (appended (as_output bytes used) text)
         → Played_as turn kept.session
     ended_played text turn is e =

@@ -3,10 +3,12 @@
 #![tactic(auto)]
 
 ghost use Rattle.std.specs.Prelude.{◌≡◌, true, ◌+◌, ◌-◌, ◌≤◌, ◌<◌, length, take};
+ghost use Rattle.capture.specs.Records.{found};
 ghost use Rattle.replay_lines.specs.Lines.{last_line};
 ghost use Rattle.replay_lines.specs.Output.{as_output, appended};
 ghost use Rattle.replay_record.specs.Beginning.{keeping};
-ghost use Rattle.replay_window.specs.Printing.{echo_bytes, printing_from};
+ghost use Rattle.replay_record.specs.Handling.{handling_of};
+ghost use Rattle.replay_window.specs.Printing.{echo_bytes, printing_after};
 ghost use Rattle.replay_window.specs.Windows.{ready_in, played_in, as_call_result, result_after, Continues, on_window, as_window_result, after_window};
 ghost use Rattle.replay_window.specs.Turns.{as_printed, printed_at, printing_result, moved_on};
 
@@ -58,8 +60,8 @@ fn play_record(bytes: &[u8], before: Played, sram: &mut [u8], out: &mut [u8]) ->
     requires room { before.turn.used + 96 ≤ length out.old }
     requires place { before.turn.at + length bytes.now < 0x1_0000_0000_0000_0000 }
     ensures played { as_call_result result sram.new out.new
-        ≡ moved_on before.turn.at (printing_result (printing_from (keeping before.turn.ordinal before.session sram.old) bytes.now) (as_output out.old before.turn.used)) }
-    ensures short { length (printing_from (keeping before.turn.ordinal before.session sram.old) bytes.now).text ≤ 96 }
+        ≡ moved_on before.turn.at (printing_result (printing_after before.turn.ordinal (handling_of before.session sram.old (found 0 bytes.now))) (as_output out.old before.turn.used)) }
+    ensures short { length (printing_after before.turn.ordinal (handling_of before.session sram.old (found 0 bytes.now))).text ≤ 96 }
 {
     let Played { turn, session } = before;
     match replay_record::handle(bytes, session, sram) {

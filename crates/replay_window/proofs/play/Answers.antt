@@ -2,6 +2,7 @@
 use Rattle.std.proofs.Common.{sym, subst, length}
 use Rattle.std.proofs.lemmas.List.{take_rest}
 use Rattle.replay_record.specs.Beginning.{keeping}
+use Rattle.replay_window.specs.Printing.{printing_of}
 use Rattle.replay_window.specs.Windows.{CallResult, Continues}
 use Rattle.replay_window.proofs.Continuing.{windows_join}
 use Rattle.replay_window.proofs.Turning.{turning_first, turning_on, turning_less, turning_last}
@@ -11,6 +12,7 @@ pub loop-sram-init : goal.loop-sram-init
 loop-sram-init c = turning_first _ _ _ _
 
 pub loop-sram-smaller : goal.loop-sram-smaller
+unfolding printing_of
 loop-sram-smaller c =
     let l = c.loop-sram in
     let e = c.play_record-played.ensures in
@@ -18,6 +20,7 @@ loop-sram-smaller c =
     turning_less _ _ _ _ _ _ _ l.invariant _ _ _ (rw rest at e.played) (rw rest at e.short) _ c.is_ready.ensures c.loop-sram-test.true
 
 pub loop-sram-preserved : goal.loop-sram-preserved
+unfolding printing_of
 loop-sram-preserved c =
     let l = c.loop-sram in
     let e = c.play_record-played.ensures in
