@@ -30,7 +30,7 @@ fn put_rows(out: &mut [u32], rows: [Row; 5])
     ensures { out.new ≡ table_numbers rows }
 {
     let numbers = rows.map(row_numbers);
-    buffers::fill(out, numbers.as_flattened());
+    out.copy_from_slice(numbers.as_flattened());
 }
 
 // Writes the rows, where they are not refused and the output has its length, and returns the number that C gets.

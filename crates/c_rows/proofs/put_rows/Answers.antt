@@ -1,6 +1,5 @@
--- Each row's numbers are made by `row_numbers`, and all of them have the output's length.
+-- The numbers of each row are those that `row_numbers` makes.
 use Rattle.std.proofs.Common.{rules, of_calls, arith, ℕ, ◌<◌, ◌≡◌, length, get_or, List}
-use Rattle.buffers.proofs.Lending.{fill_whole}
 use Rattle.mmu.specs.declared.Row.{Row}
 use Rattle.c_rows.specs.Numbers.{row_numbers}
 use Rattle.c_rows.proofs.Table.{laid_out}
@@ -14,9 +13,5 @@ returns c =
     let many : length numbers ≡ 5 = search rules in
     let each : (i : ℕ) (d : Row) (e : List ℕ) → i < length rows → get_or numbers i e ≡ row_numbers (get_or rows i d) =
     λ i d e h. let made = c.map-numbers.ensures.items.at i d e (omega arith) in search (rules, of_calls) in
-    rw (
-      c.fill.ensures,
-      fill_whole c.as_flattened.result.now c.args.out.now (omega arith),
-      c.as_flattened.ensures.value,
-    )
-    (laid_out rows numbers (omega arith) each)
+    let laid = laid_out rows numbers (omega arith) each in
+    cc
