@@ -1,39 +1,27 @@
 // The calls of a sender on bytes, numbers and lent outputs, as the C interface has them (include/boot_assist.h).
 #![tactic(auto)]
 
-ghost use Rattle.std.specs.Prelude.{◌≡◌, true, ◌&&◌, eqb, length};
+ghost use Rattle.std.specs.Prelude.{◌≡◌, true};
 ghost use Rattle.c_answer.specs.Writing.{as_flat};
-ghost use Rattle.c_sender.specs.Numbers.{sender_places, SenderEncoding, item_places, item_flat};
+ghost use Rattle.c_sender.specs.Numbers.{sender_places, SenderEncoding};
 ghost use Rattle.c_load.specs.Calls.{as_begin_reply, reply_to_begin, as_ask_reply, reply_to_ask, as_tell_reply, reply_to_tell};
 
 use c_sender::{ITEM_BYTES, ITEM_WIDTH, SENDER_BYTES, SENDER_WIDTH};
 use sender_echo::Heard;
-use sender_load::{Sender, Sent};
+use sender_load::Sender;
 
-// Whether there are places for so many bytes and numbers, and no more.
-fn has_places<const BYTES: usize, const WIDTH: usize>(bytes: &[u8], numbers: &[u32]) -> bool
-    ensures { result ≡ (eqb (length bytes.now) BYTES && eqb (length numbers.now) WIDTH) }
-{
-    bytes.len() == BYTES && numbers.len() == WIDTH
-}
-
-// Writes a sender in its places, and an item in its. One function for both would only wrap the two copies that each is.
-// Bytes and numbers stay two parameters, as C lends them (include/boot_assist.h): the clauses have the two as one `Flat`.
+// Writes a sender in its places.
 #[tactic(auto, using(c_sender::proofs::Back::sender_encoding))]
 fn put_sender(bytes: &mut [u8], numbers: &mut [u32], sender: Sender)
     requires { sender_places (as_flat bytes.old numbers.old) ≡ true }
     ensures { SenderEncoding sender (as_flat bytes.new numbers.new) }
 {
-    bytes.copy_from_slice(&sender.configuration.password);
-    numbers.copy_from_slice(&c_sender::sender_numbers(sender));
-}
-
-fn put_item(bytes: &mut [u8], numbers: &mut [u32], sent: Sent)
-    requires { item_places (as_flat bytes.old numbers.old) ≡ true }
-    ensures { as_flat bytes.new numbers.new ≡ item_flat sent }
-{
-    bytes.copy_from_slice(&sent.bytes);
-    numbers.copy_from_slice(&c_sender::item_numbers(sent));
+    c_answer::put(
+        bytes,
+        numbers,
+        sender.configuration.password,
+        c_sender::sender_numbers(sender),
+    );
 }
 
 // Begins a load.
@@ -50,7 +38,7 @@ pub fn begin(
     ensures { as_begin_reply result (as_flat sender_bytes.new sender.new)
         ≡ reply_to_begin port start vle password.now image.now (as_flat sender_bytes.old sender.old) }
 {
-    if !has_places::<SENDER_BYTES, SENDER_WIDTH>(sender_bytes, sender) {
+    if !c_answer::has_room::<SENDER_BYTES, SENDER_WIDTH>(sender_bytes, sender) {
         return 9;
     }
     if port > 1 || password.len() != 8 {
@@ -80,17 +68,17 @@ pub fn ask(
     ensures { as_ask_reply result (as_flat sender_bytes.new sender.new) (as_flat item_bytes.new item.new)
         ≡ reply_to_ask (as_flat sender_bytes.old sender.old) image.now (as_flat item_bytes.old item.old) }
 {
-    if !has_places::<SENDER_BYTES, SENDER_WIDTH>(sender_bytes, sender) {
+    if !c_answer::has_room::<SENDER_BYTES, SENDER_WIDTH>(sender_bytes, sender) {
         return 8;
     }
     let mut next = c_sender::read_sender(sender_bytes, sender);
     let asked = sender::ask(&mut next, image);
     if let Ok(sent) = asked {
-        if !has_places::<ITEM_BYTES, ITEM_WIDTH>(item_bytes, item) {
+        if !c_answer::has_room::<ITEM_BYTES, ITEM_WIDTH>(item_bytes, item) {
             return 9;
         }
         put_sender(sender_bytes, sender, next);
-        put_item(item_bytes, item, sent);
+        c_answer::put(item_bytes, item, sent.bytes, c_sender::item_numbers(sent));
     }
     sender::answer_number(asked)
 }
@@ -109,7 +97,7 @@ pub fn tell(
     ensures { as_tell_reply result (as_flat sender_bytes.new sender.new) verdict.new
         ≡ reply_to_tell (as_flat sender_bytes.old sender.old) image.now port identifier bytes.now verdict.old }
 {
-    if !has_places::<SENDER_BYTES, SENDER_WIDTH>(sender_bytes, sender) {
+    if !c_answer::has_room::<SENDER_BYTES, SENDER_WIDTH>(sender_bytes, sender) {
         return 8;
     }
     let heard = Heard {

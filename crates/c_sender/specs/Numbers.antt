@@ -1,10 +1,10 @@
 -- Senders and the items that they give as bytes and numbers, in the order of include/boot_assist.h.
-use Rattle.std.specs.Prelude.{ℕ, ◌≡◌, List, [], ◌∷◌, Bool, cond, not, ◌&&◌, eqb, length}
+use Rattle.std.specs.Prelude.{ℕ, ◌≡◌, List, [], ◌∷◌, Bool, cond, not, eqb}
 use Rattle.octets.specs.Read.{first_eight}
 use Rattle.session_state.specs.declared.Port.{Port}
 use Rattle.session_items.specs.declared.Source.{Source}
 use Rattle.session_items.specs.Items.{port_from}
-use Rattle.c_answer.specs.Writing.{Flat, as_flat, bit}
+use Rattle.c_answer.specs.Writing.{Flat, as_flat, room_for, bit}
 use Rattle.c_session.specs.Writing.{port_number}
 use Rattle.c_session.specs.Reading.{number_at}
 use Rattle.sender_load.specs.declared.Sender.{Sender}
@@ -14,7 +14,7 @@ use Rattle.sender.specs.Calls.{head_with}
 
 -- a sender is 8 bytes and 7 numbers
 abbrev pub sender_places : Flat → Bool
-sender_places given = eqb (length given.bytes) 8 && eqb (length given.numbers) 7
+sender_places given = room_for 8 7 given
 
 -- its numbers; its bytes are those of the password
 abbrev pub sender_numbers : Sender → List ℕ
@@ -59,7 +59,7 @@ pub record SenderEncoding (sender : Sender) (r : Flat) : Type 0 where
 
 -- an item is 8 bytes and 3 numbers
 abbrev pub item_places : Flat → Bool
-item_places given = eqb (length given.bytes) 8 && eqb (length given.numbers) 3
+item_places given = room_for 8 3 given
 
 -- its numbers: its port, its identifier, which only CAN has, and how many of the bytes are its own
 abbrev pub identifier_of : Source → ℕ

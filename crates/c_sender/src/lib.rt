@@ -34,7 +34,8 @@ pub fn sender_numbers(sender: Sender) -> [u32; SENDER_WIDTH]
     ]
 }
 
-// The flag and the port of a number. Neither is a `From`: no type of theirs is of this crate.
+// The flag and the port of a number. Neither is a `From`: no type of theirs is of this crate. `c_session::read_port`, below it, reads a port of
+// its own numbers so too; this one is public, so it stays.
 pub fn flag_of(number: u32) -> bool
     ensures { result ≡ flag_of number }
 {
