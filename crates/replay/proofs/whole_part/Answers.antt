@@ -1,17 +1,11 @@
 -- The next record starts behind the place of one that is read, and within the bytes.
 use Rattle.std.proofs.Common.{◌≡◌, ℕ, ◌+◌, ◌≤◌, List, length, drop, Bool, true, false, cond, ap, sym, ◌∙◌, refl, arith, length-drop}
 use Rattle.std.proofs.Math.Dec.{leb}
-use borrow.Author.Tests.{leb-true}
-use Rattle.capture.specs.declared.Kind.{Kind}
+use borrow.Author.Tests.{leb-true, eqb-false}
 use Rattle.capture.specs.Records.{Read, kind_number, found, reads, refused}
 use Rattle.capture.proofs.Laws.{found_next}
+use Rattle.replay_record.proofs.Laws.{counted}
 use Rattle.replay.proofs.whole_part.Goals as goal
-
-numbered : (kind : Kind) → kind_number kind ≡ 0 → ⊥
-numbered Kind.Can h = omega arith
-numbered Kind.Clean h = omega arith
-numbered Kind.Faulty h = omega arith
-numbered Kind.Reset h = omega arith
 
 behind : (bytes : List ℕ) (at : ℕ) (read : Read) → read ≡ reads bytes at → read.number ≡ 0 → (read.kind ≡ 0 → ⊥)
     → (at + 4 ≤ read.next) × (read.next ≤ length bytes)
@@ -29,5 +23,5 @@ pub loop-record-smaller : goal.loop-record-smaller
 loop-record-smaller c =
     let one = c.in-Ok-Some.record in
     let given = rw (c.in-Ok-Some.field-0-is) at c.in-Ok-Some.ensures.given in
-    let inside = behind c.args.bytes.now c.loop-record.at _ given refl (numbered one.kind) in
+    let inside = behind c.args.bytes.now c.loop-record.at _ given refl (eqb-false (kind_number one.kind) 0 (counted one.kind)) in
     omega (arith, inside.0, inside.1)
