@@ -21,9 +21,8 @@ fn read(configuration: Configuration, bytes: [u8; 8]) -> Header
     ensures { result ≡ header_read configuration bytes }
 {
     let all = &bytes[..];
-    let start = sram::align(octets::word(all, 0));
     Header {
-        start,
+        start: sram::align(octets::word(all, 0)),
         vle: octets::byte(all, 4) / 128 == 1,
         length: octets::word(all, 4) % 0x8000_0000,
     }
@@ -34,11 +33,10 @@ fn read(configuration: Configuration, bytes: [u8; 8]) -> Header
 fn check(configuration: Configuration, header: Header) -> Result<Header, Refusal>
     ensures { result ≡ validated configuration header }
 {
-    let start = header.start;
     if header.length == 0 {
         return Err(Refusal::Length);
     }
-    if !sram::is_in_range(configuration, start.0, header.length) {
+    if !sram::is_in_range(configuration, header.start.0, header.length) {
         return Err(Refusal::Range);
     }
     Ok(header)

@@ -7,7 +7,7 @@ ghost use Rattle.sram.specs.Region.{right_size};
 ghost use Rattle.header.specs.Reading.{header_read, validated};
 ghost use Rattle.session_answers.specs.Answers.{result_of};
 ghost use Rattle.session.specs.Rules.{received, enters, holds, stops, checked, begun, loaded, transition, sram_after, taken_as, stopped_by_faulty_byte, step};
-ghost use Rattle.session.specs.Room.{LoadRoom, Room};
+ghost use Rattle.session.specs.Room.{LoadRoom, Room, Room-prop};
 
 use session_answers::{Answer, Outcome, StepResult};
 use session_items::{Item, Reaction, Role};
@@ -45,8 +45,7 @@ fn stop(session: Session, refusal: Refusal) -> Transition
 fn check_password(session: Session, port: Port, bytes: [u8; 8]) -> Transition
     ensures { result ≡ checked session port bytes }
 {
-    let configuration = session.configuration;
-    if !password::check(bytes, configuration.password) {
+    if !password::check(bytes, session.configuration.password) {
         return stop(session, Refusal::Password);
     }
     enter(session, Stage::Header(port), Outcome::Taken)
@@ -59,11 +58,10 @@ fn begin_load(session: Session, port: Port, bytes: [u8; 8]) -> Transition
     match header::validate(session.configuration, bytes) {
         Err(refusal) => stop(session, refusal),
         Ok(header) => {
-            let start = header.start;
             let load = Load {
-                start,
+                start: header.start,
                 vle: header.vle,
-                next: start.0,
+                next: header.start.0,
                 owed: header.length,
             };
             enter(session, Stage::Data(port, load), Outcome::Taken)
@@ -136,45 +134,63 @@ fn receive_eight<F: FnOnce(Session, Port, [u8; 8]) -> Transition>(
     }
 }
 
-// The bytes taken in a role.
-#[tactic(auto, unfolding(crate::specs::Rules::transition, crate::specs::Rules::password_received, crate::specs::Rules::header_received))]
-fn receive(role: Role, session: Session, port: Port, bytes: &[u8]) -> Transition
-    requires { Room role session (length bytes.now) }
-    ensures { result ≡ transition role session port bytes.now }
-{
-    match role {
-        Role::Password => receive_eight(session, port, Stage::Password, bytes, check_password),
-        Role::Header => receive_eight(session, port, Stage::Header(port), bytes, begin_load),
-        Role::Data(load) => advance(session, port, load, bytes),
-    }
+// What a session takes: the bytes of an item in a role by a port. There are no more than eight, and they have their place.
+#[derive(Clone, Copy)]
+struct Taking<'a> {
+    session: Session,
+    role: Role,
+    port: Port,
+    bytes: &'a [u8],
+    ghost few: { length bytes.now ≤ 8 },
+    ghost room: { Room role session (length bytes.now) } by { Room-prop role session (length bytes.now) },
 }
 
-// Stores the bytes of a load.
-#[tactic(auto, unfolding(crate::specs::Rules::sram_after))]
-fn store_data(role: Role, session: Session, sram: &mut [u8], bytes: &[u8])
-    requires { (right_size session.configuration sram.old ≡ true) × Room role session (length bytes.now) }
-    ensures { sram.new ≡ sram_after role session sram.old bytes.now }
-{
-    if let Role::Data(load) = role {
-        sram::store(session.configuration, sram, load.next, bytes);
+impl Taking<'_> {
+    // The bytes move the session on.
+    #[tactic(auto, unfolding(crate::specs::Rules::transition, crate::specs::Rules::password_received, crate::specs::Rules::header_received))]
+    fn receive(&self) -> Transition
+        ensures { result ≡ transition self.now.role self.now.session self.now.port self.now.bytes.now }
+    {
+        let Taking {
+            session,
+            role,
+            port,
+            bytes,
+        } = *self;
+        match role {
+            Role::Password => receive_eight(session, port, Stage::Password, bytes, check_password),
+            Role::Header => receive_eight(session, port, Stage::Header(port), bytes, begin_load),
+            Role::Data(load) => advance(session, port, load, bytes),
+        }
     }
-}
 
-// An item's bytes are taken: the session moves on, they are echoed, and stored where they are data.
-#[tactic(auto, unfolding(crate::specs::Rules::taken_as))]
-fn take(role: Role, port: Port, session: Session, sram: &mut [u8], bytes: &[u8]) -> StepResult
-    requires { (right_size session.configuration sram.old ≡ true) × (length bytes.now ≤ 8) × Room role session (length bytes.now) }
-    ensures { result_of result sram.new ≡ taken_as role port session sram.old bytes.now }
-{
-    store_data(role, session, sram, bytes);
-    let next = receive(role, session, port, bytes);
-    let outcome = next.outcome;
-    StepResult {
-        answer: Answer {
-            outcome,
-            echo: session_answers::echo_of(role, port, bytes),
-        },
-        session: next.session,
+    // The bytes of a load are stored.
+    #[tactic(auto, unfolding(crate::specs::Rules::sram_after))]
+    fn store_data(&self, sram: &mut [u8])
+        requires { right_size self.now.session.configuration sram.old ≡ true }
+        ensures { sram.new ≡ sram_after self.now.role self.now.session sram.old self.now.bytes.now }
+    {
+        if let Role::Data(load) = self.role {
+            sram::store(self.session.configuration, sram, load.next, self.bytes);
+        }
+    }
+
+    // The bytes are stored where they are data, the session moves on, and they are echoed.
+    #[tactic(auto, unfolding(crate::specs::Rules::taken_as))]
+    fn take(&self, sram: &mut [u8]) -> StepResult
+        requires { right_size self.now.session.configuration sram.old ≡ true }
+        ensures { result_of result sram.new ≡ taken_as self.now.role self.now.port self.now.session sram.old self.now.bytes.now }
+    {
+        self.store_data(sram);
+        let next = self.receive();
+        let outcome = next.outcome;
+        StepResult {
+            answer: Answer {
+                outcome,
+                echo: session_answers::echo_of(self.role, self.port, self.bytes),
+            },
+            session: next.session,
+        }
     }
 }
 
@@ -197,7 +213,15 @@ pub fn hand_in(session: Session, sram: &mut [u8], item: &Item<'_>) -> StepResult
     }
     match item.react(session.stage) {
         Reaction::Ignores => session_answers::take_nothing(session, Outcome::Ignored),
-        Reaction::Takes(role, port) => take(role, port, session, sram, item.bytes),
+        Reaction::Takes(role, port) => {
+            let taking = Taking {
+                session,
+                role,
+                port,
+                bytes: item.bytes,
+            };
+            taking.take(sram)
+        }
         Reaction::Stops => stop_by_faulty_byte(session),
     }
 }

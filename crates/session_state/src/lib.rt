@@ -67,11 +67,10 @@ pub struct Session {
 fn does_load_fit(configuration: Configuration, load: Load) -> bool
     ensures { result ≡ load_fits configuration load }
 {
-    let start = load.start;
     (1 <= load.owed)
         & sram::is_in_range(configuration, load.next, load.owed)
-        & sram::is_aligned(configuration, start)
-        & (start.0 <= load.next)
+        & sram::is_aligned(configuration, load.start)
+        & (load.start.0 <= load.next)
 }
 
 // Whether a session's counts fit its stage.
