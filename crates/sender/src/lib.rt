@@ -1,8 +1,8 @@
 // The truck's side (02, E1): a load is begun, its items are asked for, and the echoes told.
 #![tactic(auto)]
 
-ghost use Rattle.std.specs.Prelude.{◌≡◌, Ok, true, length};
-ghost use Rattle.sender_load.specs.Items.{sound_load};
+ghost use Rattle.std.specs.Prelude.{◌≡◌, ◌+◌, ◌^◌, ◌<◌, Ok, true, length};
+ghost use Rattle.sender_load.specs.Items.{width};
 ghost use Rattle.sender.specs.Calls.{begun_number, unheard_number, answer_number, head_with, idle, load_begun, heeded, as_reply, asked, echo_told, told};
 
 use sender_echo::Heard;
@@ -25,6 +25,7 @@ pub enum Verdict {
     Abandoned,
 }
 
+// The number of each.
 impl From<Unheard> for u8 {
     ghost from_gives = { λ unheard number. number ≡ unheard_number unheard };
 
@@ -134,10 +135,10 @@ pub fn ask(sender: &mut Sender, image: &[u8]) -> Result<Sent, Unheard>
     Ok(sent)
 }
 
-// The right echo moves a load on, or ends it. The image is looked at by the precondition alone.
-#[tactic(auto, using(sender_load::proofs::Laws::end_short, sender_load::proofs::Laws::next_short))]
-fn move_on(sender: &mut Sender, image: &[u8]) -> Verdict
-    requires { sound_load sender.old image.now ≡ true }
+// The right echo moves a load on, or ends it. A sound load has room for both places.
+fn move_on(sender: &mut Sender) -> Verdict
+    requires end { 16 + sender.old.length < 2 ^ 32 }
+    requires next { sender.old.place + width sender.old.port < 2 ^ 32 }
     ensures { as_reply (Ok result) sender.new ≡ echo_told true sender.old }
 {
     let place = sender.place + sender_load::width_by(sender.port);
@@ -151,7 +152,7 @@ fn move_on(sender: &mut Sender, image: &[u8]) -> Verdict
 }
 
 // Tells what was heard.
-#[tactic(auto, unfolding(crate::specs::Calls::heeded, crate::specs::Calls::told))]
+#[tactic(auto, using(sender_load::proofs::Laws::end_short, sender_load::proofs::Laws::next_short), unfolding(crate::specs::Calls::heeded, crate::specs::Calls::told))]
 pub fn tell(sender: &mut Sender, image: &[u8], heard: Heard) -> Result<Verdict, Unheard>
     ensures { as_reply result sender.new ≡ told sender.old image.now heard.entry.port heard.entry.identifier heard.entry.bytes.now }
 {
@@ -161,7 +162,7 @@ pub fn tell(sender: &mut Sender, image: &[u8], heard: Heard) -> Result<Verdict, 
     }
     let due = sender.echo_due(image);
     if sender_echo::is_echo(sender.port, due, heard) {
-        return Ok(move_on(sender, image));
+        return Ok(move_on(sender));
     }
     *sender = no_load();
     Ok(Verdict::Abandoned)
