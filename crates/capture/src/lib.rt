@@ -94,11 +94,11 @@ fn find_header(bytes: &[u8]) -> Result<(Kind, usize), Damaged>
     ensures { as_header result ≡ header_found bytes.now }
 {
     let kind = Kind::try_from(octets::byte(bytes, 3))?;
-    if !is_good_record(bytes, kind) {
-        return Err(Damaged);
+    if is_good_record(bytes, kind) {
+        let length = usize::from(octets::half(bytes, 0));
+        return Ok((kind, length.saturating_sub(2)));
     }
-    let length = usize::from(octets::half(bytes, 0));
-    Ok((kind, length.saturating_sub(2)))
+    Err(Damaged)
 }
 
 // The record at a place, or none at the end of the capture.
