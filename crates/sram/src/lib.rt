@@ -50,7 +50,7 @@ pub fn is_in_range(configuration: Configuration, address: u32, count: u32) -> bo
 pub fn is_aligned(configuration: Configuration, address: Aligned) -> bool
     ensures { result ≡ aligned configuration address.0 }
 {
-    (address.0 % 4 == 0) & is_in_range(configuration, address.0, 1)
+    address.0 % 4 == 0 && is_in_range(configuration, address.0, 1)
 }
 
 // The address with its two lowest bits dropped.
