@@ -15,7 +15,7 @@ use session_state::{Load, Port};
 // A sender: whether a load is going; the head's configuration as far as the truck knows it, which has the password to send; the port;
 // the start as given and the VLE bit; the length of the image that the load was begun with; the place of the item that is out, or else of the
 // next one; and whether one is out.
-// `going` stands beside a load's fields, not an Option round them: what is not going is given back with all of them (`sender: Calls.gives_none`).
+// `going` stands beside a load's fields, not an Option round them: what is not going keeps all of them when asked (`sender: Calls.gives_none`).
 #[derive(Clone, Copy)]
 pub struct Sender {
     pub going: bool,
