@@ -39,7 +39,7 @@ impl From<Unheard> for u8 {
     }
 }
 
-// The number of what beginning says.
+// The number of what beginning says. It is not `answer_number` too: a refusal's number is no `From` (`session_answers::refusal_number`).
 pub fn begun_number(begun: Result<Sender, Refusal>) -> u8
     ensures { result ≡ begun_number begun }
 {
@@ -59,7 +59,7 @@ pub fn answer_number<T: Copy>(answer: Result<T, Unheard>) -> u8
     }
 }
 
-// The configuration of a head, as far as the truck knows it.
+// The configuration of a head, as far as the truck knows it. It is no `From`: no type of it is of this crate.
 pub fn head_with(password: [u8; 8]) -> Configuration
     ensures { result ≡ head_with password }
 {
