@@ -6,7 +6,7 @@ use mathlib.Core.List.{List, [], ◌∷◌}
 use mathlib.Core.Bool.{Bool, true, false, cond}
 use Rattle.std.specs.Prelude.{Option, Some, None}
 use lib.ListN.{length, get_or}
-use Rattle.octets.proofs.Cases.{by_test}
+use Rattle.std.proofs.lemmas.Bool.{cond_both}
 use Rattle.boot_table.specs.declared.Asked.{Asked}
 use Rattle.boot_table.specs.declared.Row.{Row}
 use Rattle.boot_table.specs.Table.{asked_by, row_for}
@@ -58,7 +58,7 @@ unfolding searched
 search_finds memory n [] = (omega arith, λ i h. absurd (omega arith))
 search_finds memory n (p ∷ places) =
     let rest = searched memory (n + 1) places in
-    by_test (Finds memory (p ∷ places) n) (record { found = Some p; examined = n + 1 }) rest (good_place memory p)
+    cond_both (good_place memory p) (record { found = Some p; examined = n + 1 }) rest (Finds memory (p ∷ places) n)
     (λ e. (0, omega arith, omega arith, refl, e, λ i h. absurd (omega arith)))
     (λ e. more memory p places n rest.found rest.examined e (search_finds memory (n + 1) places))
 

@@ -8,7 +8,7 @@ use mathlib.Core.Bool.{Bool, true, false, cond, ◌&&◌, and-eq-true_iff, true�
 use borrow.Author.Tests.{eqb-true}
 use lib.Dec.{leb, eqb}
 use lib.ListN.{length}
-use Rattle.octets.proofs.Cases.{by_test}
+use Rattle.std.proofs.lemmas.Bool.{cond_both}
 use Rattle.password.specs.Passing.{passes}
 use Rattle.sram.specs.Region.{right_size}
 use Rattle.session_state.specs.declared.Load.{Load}
@@ -74,12 +74,12 @@ module _ (session : Session) where
   -- its number is 0 or 2 to 5
   taken_as_lem : (P : ℕ → Type 0) → P 0 → P 2 → P 3 → P 4 → P 5 → (role : Role) (bytes : List ℕ) → P (taken_number role session bytes)
   taken_as_lem P zero two three four five Role.Password bytes =
-      by_test P 2 0 (wrong_password session (received session bytes)) (λ e. two) (λ e. zero)
+      cond_both (wrong_password session (received session bytes)) 2 0 P (λ e. two) (λ e. zero)
   taken_as_lem P zero two three four five Role.Header bytes =
       let all = received session bytes in
-      by_test P 3 (cond (not_in_sram session all) 4 0) (length_zero session all) (λ e. three)
-      (λ e. by_test P 4 0 (not_in_sram session all) (λ f. four) (λ f. zero))
-  taken_as_lem P zero two three four five (Role.Data load) bytes = by_test P 5 0 (last_stored load bytes) (λ e. five) (λ e. zero)
+      cond_both (length_zero session all) 3 (cond (not_in_sram session all) 4 0) P (λ e. three)
+      (λ e. cond_both (not_in_sram session all) 4 0 P (λ f. four) (λ f. zero))
+  taken_as_lem P zero two three four five (Role.Data load) bytes = cond_both (last_stored load bytes) 5 0 P (λ e. five) (λ e. zero)
 
   taken_changes : (role : Role) (bytes : List ℕ) → changes_nothing (taken_number role session bytes) ≡ false
   taken_changes role bytes = taken_as_lem (λ (n : ℕ). changes_nothing n ≡ false) refl refl refl refl refl role bytes
@@ -106,18 +106,17 @@ module _ (session : Session) where
       let all = received session bytes in
       let passed = enters session (Stage.Header port) Outcome.Taken in
       let tested = passes all session.configuration.password in
-      by_test Named (cond tested passed (stops session Refusal.Password)) (holds session Stage.Password all) (eqb (length all) 8)
-      (λ e. by_test Named passed (stops session Refusal.Password) tested
+      cond_both (eqb (length all) 8) (cond tested passed (stops session Refusal.Password)) (holds session Stage.Password all) Named
+      (λ e. cond_both tested passed (stops session Refusal.Password) Named
       (λ f. record { stage = refl; same = refl }) (λ f. record { stage = refl; same = refl }))
       (λ e. record { stage = refl; same = refl })
   transition_named Role.Header port bytes =
       let all = received session bytes in
       let v = validated session.configuration (header_read session.configuration all) in
-      by_test Named (begun session port v) (holds session (Stage.Header port) all) (eqb (length all) 8)
+      cond_both (eqb (length all) 8) (begun session port v) (holds session (Stage.Header port) all) Named
       (λ e. begun_named port v) (λ e. record { stage = refl; same = refl })
   transition_named (Role.Data load) port bytes =
-      by_test Named (enters session (Stage.Jumped (jump_of load)) (Outcome.Jumps (jump_of load)))
-      (enters session (Stage.Data port (advanced load (length bytes))) Outcome.Taken) (eqb (length bytes) load.owed)
+      cond_both (eqb (length bytes) load.owed) (enters session (Stage.Jumped (jump_of load)) (Outcome.Jumps (jump_of load))) (enters session (Stage.Data port (advanced load (length bytes))) Outcome.Taken) Named
       (λ e. record { stage = refl; same = refl }) (λ e. record { stage = refl; same = refl })
 
   -- data bytes that are taken get 0 or 5
@@ -318,7 +317,7 @@ module _ (session : Session) (sram : List ℕ) (item : Item) where
   -- 5 is given only for the last byte of a load
   not_five : (stage : Stage) → untaken_number stage item ≡ 5 → ⊥
   not_five stage =
-      by_test (λ (n : ℕ). n ≡ 5 → ⊥) 12 1 (serial_going stage && by_serial item) (λ e f. omega arith) (λ e f. omega arith)
+      cond_both (serial_going stage && by_serial item) 12 1 (λ (n : ℕ). n ≡ 5 → ⊥) (λ e f. omega arith) (λ e f. omega arith)
 
   pub jumps : (port : Port) (load : Load) → session.stage ≡ Stage.Data port load → (a b c counts stops last : Bool)
       → right_size session.configuration sram ≡ a

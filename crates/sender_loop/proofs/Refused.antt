@@ -9,7 +9,7 @@ use lib.ListN.{length, take, drop, replicate}
 use lib.Seq.{append_snoc, take-append_seam}
 use Rattle.std.specs.Prelude.{Ok, is_ok}
 use Rattle.octets.specs.Same.{same}
-use Rattle.octets.proofs.Cases.{untrue}
+use Rattle.std.proofs.lemmas.Bool.{false_from_ne_true}
 use Rattle.octets.proofs.Comparing.{same_equal}
 use Rattle.password.specs.Passing.{passes}
 use Rattle.session_configuration.specs.declared.Configuration.{Configuration}
@@ -85,7 +85,7 @@ module _
       let all : own ≡ bytes =
       ap (λ (echo : Echo). take echo.length echo.bytes) (header_shown configuration sender image sram 8 (omega arith) room).1
       ∙ take-append_seam bytes (drop (length bytes) (replicate 8 0)) in
-      untrue (is_echo sender.port due sender.port 0 [])
+      false_from_ne_true (is_echo sender.port due sender.port 0 [])
       (λ e. let none = same_equal [] own ((and-eq-true_iff (heard_under sender.port sender.port due.identifier 0) (same [] own)).0 e).1 in
       omega (arith, ap length (none ∙ all), many, some_bytes sender.port))
 

@@ -10,7 +10,7 @@ use borrow.Author.Tests.{eqb-true, eqb-false, leb-true, le-leb}
 use lib.Dec.{leb, eqb}
 use lib.ListN.{length, take, length-append, length-take}
 use Rattle.octets.specs.Read.{word_at}
-use Rattle.octets.proofs.Cases.{by_test}
+use Rattle.std.proofs.lemmas.Bool.{cond_both}
 use Rattle.password.specs.Passing.{passes}
 use Rattle.sram.specs.Region.{right_size}
 use Rattle.sram.proofs.Laws.{range_part, range_rest, range_aligned, stored_size}
@@ -185,8 +185,7 @@ module _ (session : Session) where
   checked-fits : (port : Port) (bytes : List ℕ) → Fits session (checked session port bytes)
   unfolding checked
   checked-fits port bytes =
-      by_test (Fits session) (enters session (Stage.Header port) Outcome.Taken) (stops session Refusal.Password)
-      (passes bytes session.configuration.password)
+      cond_both (passes bytes session.configuration.password) (enters session (Stage.Header port) Outcome.Taken) (stops session Refusal.Password) (Fits session)
       (λ e. entered_fits (Stage.Header port) Outcome.Taken (header_stage port)) (λ e. stopped-fits Refusal.Password)
 
   begun-load : (bytes : List ℕ) → announces_none (header_read session.configuration bytes) ≡ false
@@ -209,10 +208,9 @@ module _ (session : Session) where
       let header = header_read session.configuration bytes in
       let inside = within session.configuration header in
       let holds_of : Result Header Refusal → Type 0 = λ v. Fits session (begun session port v) in
-      by_test holds_of (Err Refusal.Length)
-      (cond inside (Ok header) (Err Refusal.Range)) (announces_none header)
+      cond_both (announces_none header) (Err Refusal.Length) (cond inside (Ok header) (Err Refusal.Range)) holds_of
       (λ e. stopped-fits Refusal.Length)
-      (λ e. by_test holds_of (Ok header) (Err Refusal.Range) inside
+      (λ e. cond_both inside (Ok header) (Err Refusal.Range) holds_of
       (λ f. entered_fits (Stage.Data port (load_from header)) Outcome.Taken (begun-load bytes e f))
       (λ f. stopped-fits Refusal.Range))
 
@@ -220,7 +218,7 @@ module _ (session : Session) where
       → Fits session (password_received session port bytes)
   unfolding password_received
   password-fits port bytes h k =
-      by_test (Fits session) (checked session port bytes) (holds session Stage.Password bytes) (eqb (length bytes) 8)
+      cond_both (eqb (length bytes) 8) (checked session port bytes) (holds session Stage.Password bytes) (Fits session)
       (λ e. checked-fits port bytes)
       (λ e. record {
         same = refl;
@@ -237,8 +235,7 @@ module _ (session : Session) where
   unfolding header_received
   header-fits port bytes k can =
       let configuration = session.configuration in
-      by_test (Fits session) (begun session port (validated configuration (header_read configuration bytes)))
-      (holds session (Stage.Header port) bytes) (eqb (length bytes) 8)
+      cond_both (eqb (length bytes) 8) (begun session port (validated configuration (header_read configuration bytes))) (holds session (Stage.Header port) bytes) (Fits session)
       (λ e. begun-fits port bytes)
       (λ e. record { same = refl; fits = held_header port bytes (omega (arith, eqb-false (length bytes) 8 e)) can })
 
@@ -258,8 +255,7 @@ module _ (session : Session) where
       → length bytes ≤ load.owed → Fits session (loaded session port load bytes)
   unfolding loaded
   loaded-fits port load bytes f h =
-      by_test (Fits session) (enters session (Stage.Jumped (jump_of load)) (Outcome.Jumps (jump_of load)))
-      (enters session (Stage.Data port (advanced load (length bytes))) Outcome.Taken) (eqb (length bytes) load.owed)
+      cond_both (eqb (length bytes) load.owed) (enters session (Stage.Jumped (jump_of load)) (Outcome.Jumps (jump_of load))) (enters session (Stage.Data port (advanced load (length bytes))) Outcome.Taken) (Fits session)
       (λ e. entered_fits (Stage.Jumped (jump_of load)) (Outcome.Jumps (jump_of load)) refl)
       (λ e. entered_fits (Stage.Data port (advanced load (length bytes))) Outcome.Taken
       (advanced-fits load (length bytes) f h e))

@@ -6,7 +6,7 @@ use mathlib.Core.Bool.{Bool, true, false, cond, not, ◌&&◌, and-eq-true_iff, 
 use borrow.Author.Tests.{eqb-true, leb-true, le-leb}
 use lib.Dec.{leb, eqb}
 use lib.ListN.{length}
-use Rattle.octets.proofs.Cases.{by_test}
+use Rattle.std.proofs.lemmas.Bool.{cond_both}
 use Rattle.session_state.specs.declared.Port.{Port}
 use Rattle.session_items.specs.declared.Reaction.{Reaction}
 use Rattle.session_items.specs.declared.Role.{Role}
@@ -20,7 +20,7 @@ pub by_hearing : (P : Reaction → Type 0) (role : Role) (port : Port) (item : I
     → (counts_as role port item ≡ false → P Reaction.Ignores)
     → P (heard role port item)
 by_hearing P role port item takes ignores =
-    by_test P (Reaction.Takes role port) Reaction.Ignores (counts_as role port item) takes ignores
+    cond_both (counts_as role port item) (Reaction.Takes role port) Reaction.Ignores P takes ignores
 
 -- behind the opening it is taken, stops the session, or is ignored
 pub by_hearing-opened : (P : Reaction → Type 0) (role : Role) (port : Port) (item : Item)
@@ -29,8 +29,8 @@ pub by_hearing-opened : (P : Reaction → Type 0) (role : Role) (port : Port) (i
     → (stops_by port item ≡ false → counts_as role port item ≡ false → P Reaction.Ignores)
     → P (heard_opened role port item)
 by_hearing-opened P role port item takes stops ignores =
-    by_test P (Reaction.Takes role port) (cond (stops_by port item) Reaction.Stops Reaction.Ignores) (counts_as role port item) takes
-    (λ e. by_test P Reaction.Stops Reaction.Ignores (stops_by port item) (λ f. stops f e) (λ f. ignores f e))
+    cond_both (counts_as role port item) (Reaction.Takes role port) (cond (stops_by port item) Reaction.Stops Reaction.Ignores) P takes
+    (λ e. cond_both (stops_by port item) Reaction.Stops Reaction.Ignores P (λ f. stops f e) (λ f. ignores f e))
 
 -- how many bytes an item has: by CAN all 8 of a password or a header come at once, by serial one comes at a time
 abbrev pub EightBy : Port → ℕ → Type 0

@@ -11,7 +11,7 @@ use borrow.Author.Tests.{eqb-true, eqb-false, leb-true, le-leb, lt-leb}
 use lib.Dec.{leb, eqb}
 use lib.ListN.{length, take, drop, length-append, length-take}
 use lib.Seq.{take-append_seam}
-use Rattle.octets.proofs.Cases.{by_test}
+use Rattle.std.proofs.lemmas.Bool.{cond_both}
 use Rattle.password.specs.Passing.{passes}
 use Rattle.password.proofs.Laws.{passes_equal}
 use Rattle.session_configuration.specs.declared.Configuration.{Configuration}
@@ -66,7 +66,7 @@ jumps-next call calls = either (eqb (outcome_number call.answer.outcome) 5)
 
 none_ignored : (item : Item) → five (unheeded item) ≡ []
 none_ignored item =
-    by_test (λ (outcome : Outcome). five outcome ≡ []) Outcome.Ignored (Outcome.Refused Fault.Form) (well_formed item) (λ e. refl) (λ e. refl)
+    cond_both (well_formed item) Outcome.Ignored (Outcome.Refused Fault.Form) (λ (outcome : Outcome). five outcome ≡ []) (λ e. refl) (λ e. refl)
 
 none_stopped : (refusal : Refusal) → five (Outcome.Stops refusal) ≡ []
 none_stopped Refusal.Password = refl
@@ -119,8 +119,7 @@ module _ (port : Port) (item : Item) (items : List Item) where
       → reading (of_port port (item ∷ items)) ≡ reading (of_port port items)
   unfolding only
   passed_by reading inside =
-      by_test (λ (l : List Item). reading l ≡ reading (of_port port items)) (item ∷ of_port port items) (of_port port items)
-      (in_stream (some port) item) inside (λ e. refl)
+      cond_both (in_stream (some port) item) (item ∷ of_port port items) (of_port port items) (λ (l : List Item). reading l ≡ reading (of_port port items)) inside (λ e. refl)
 
 -- what serial reads behind the opening
 abbrev clean_rest : List Item → List ℕ
@@ -169,8 +168,7 @@ module _ (configuration : Configuration) where
       subst
       (λ (p : Option Port). plain_from configuration p (only (in_stream p) (item ∷ items)) ≡ plain_from configuration picked later)
       (sym (picked_later item items e))
-      (by_test (λ (l : List Item). plain_from configuration picked l ≡ plain_from configuration picked later) (item ∷ later) later
-      (in_stream picked item) (λ i. unopened picked item later e) (λ i. refl))
+      (cond_both (in_stream picked item) (item ∷ later) later (λ (l : List Item). plain_from configuration picked l ≡ plain_from configuration picked later) (λ i. unopened picked item later e) (λ i. refl))
 
   -- the opening gives its bytes
   opening_taken : (item : Item) (items : List Item) → opens item ≡ true
@@ -374,8 +372,7 @@ module _
     unfolding loaded
     loaded_on port load before bytes l shape =
         let more = rest configuration (Stage.Data port (advanced load (length bytes))) items in
-        by_test Continues (enters session (Stage.Jumped (jump_of load)) (Outcome.Jumps (jump_of load)))
-        (enters session (Stage.Data port (advanced load (length bytes))) Outcome.Taken) (eqb (length bytes) load.owed)
+        cond_both (eqb (length bytes) load.owed) (enters session (Stage.Jumped (jump_of load)) (Outcome.Jumps (jump_of load))) (enters session (Stage.Data port (advanced load (length bytes))) Outcome.Taken) Continues
         (λ e. let none-owed : load.owed - length bytes ≡ 0 = omega (arith, eqb-true (length bytes) load.owed e) in
         enters_on (Stage.Jumped (jump_of load)) (Outcome.Jumps (jump_of load)) plain (its_jump more l shape none-owed)
         (sym (append-nil plain)) (all_stored more l shape none-owed))
@@ -392,10 +389,9 @@ module _
         let inside = within configuration header in
         let more = rest configuration (Stage.Data port (load_from header)) items in
         let goes_on : OkOrErr Header Refusal → Type 0 = λ v. Continues (begun session port v) in
-        by_test goes_on (Err Refusal.Length) (cond inside (Ok header) (Err Refusal.Range))
-        (announces_none header)
+        cond_both (announces_none header) (Err Refusal.Length) (cond inside (Ok header) (Err Refusal.Range)) goes_on
         (λ e. stops_on Refusal.Length (unfit all more full passed shape (rw e)))
-        (λ e. by_test goes_on (Ok header) (Err Refusal.Range) inside
+        (λ e. cond_both inside (Ok header) (Err Refusal.Range) goes_on
         (λ f. enters_on (Stage.Data port (load_from header)) Outcome.Taken (password ++ all) refl (shape ∙ rw append_assoc)
         (record {
           header = all;
@@ -417,8 +413,7 @@ module _
         → Continues (checked session port all)
     unfolding checked
     checked_on port all still shape full =
-        by_test Continues (enters session (Stage.Header port) Outcome.Taken) (stops session Refusal.Password)
-        (passes all session.configuration.password)
+        cond_both (passes all session.configuration.password) (enters session (Stage.Header port) Outcome.Taken) (stops session Refusal.Password) Continues
         (λ e. let own : passes all password ≡ true = rw same at e in
         let equal = passes_equal all password own in
         enters_on (Stage.Header port) Outcome.Taken password refl (shape ∙ rw equal) (refl, still, rw equal at own))
@@ -431,7 +426,7 @@ module _
         → (length all ≡ 8 → Continues full)
         → Continues (cond (eqb (length all) 8) full (holds session stage all))
     gathered stage before all full none_made knows shape eighth =
-        by_test Continues full (holds session stage all) (eqb (length all) 8)
+        cond_both (eqb (length all) 8) full (holds session stage all) Continues
         (λ e. eighth (eqb-true (length all) 8 e))
         (λ e. let held = take-append_seam all (drop (length all) session.held) in
         record {

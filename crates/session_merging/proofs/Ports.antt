@@ -8,7 +8,7 @@ use mathlib.Core.Option.{Option, some}
 use borrow.Author.Tests.{eqb-false}
 use lib.Dec.{eqb}
 use lib.ListN.{length}
-use Rattle.octets.proofs.Cases.{by_test}
+use Rattle.std.proofs.lemmas.Bool.{cond_both}
 use Rattle.password.specs.Passing.{passes}
 use Rattle.session_configuration.specs.declared.Configuration.{Configuration}
 use Rattle.session_state.specs.declared.Port.{Port}
@@ -73,8 +73,7 @@ module _ (port by : Port) (session : Session) (same : same_port port by ≡ true
   checked-opens : (bytes : List ℕ) → Opens port (checked session by bytes)
   unfolding checked
   checked-opens bytes =
-      by_test (Opens port) (enters session (Stage.Header by) Outcome.Taken) (stops session Refusal.Password)
-      (passes bytes session.configuration.password) (λ e. same) (λ e. refl)
+      cond_both (passes bytes session.configuration.password) (enters session (Stage.Header by) Outcome.Taken) (stops session Refusal.Password) (Opens port) (λ e. same) (λ e. refl)
 
   begun-opens : (v : OkOrErr Header Refusal) → Opens port (begun session by v)
   begun-opens (Err refusal) = refl
@@ -91,17 +90,16 @@ module _ (port by : Port) (session : Session) (same : same_port port by ≡ true
   unfolding transition password_received header_received loaded
   transition-opens Role.Password bytes g =
       let all = received session bytes in
-      by_test (Opens port) (checked session by all) (holds session Stage.Password all) (eqb (length all) 8)
+      cond_both (eqb (length all) 8) (checked session by all) (holds session Stage.Password all) (Opens port)
       (λ e. checked-opens all)
       (λ e. holds_opens by all same (λ can. (received_at_once session bytes g can).1) e)
   transition-opens Role.Header bytes g =
       let all = received session bytes in
       let v = validated session.configuration (header_read session.configuration all) in
-      by_test (Opens port) (begun session by v) (holds session (Stage.Header by) all) (eqb (length all) 8)
+      cond_both (eqb (length all) 8) (begun session by v) (holds session (Stage.Header by) all) (Opens port)
       (λ e. begun-opens v) (λ e. same)
   transition-opens (Role.Data load) bytes g =
-      by_test (Opens port) (enters session (Stage.Jumped (jump_of load)) (Outcome.Jumps (jump_of load)))
-      (enters session (Stage.Data by (advanced load (length bytes))) Outcome.Taken) (eqb (length bytes) load.owed)
+      cond_both (eqb (length bytes) load.owed) (enters session (Stage.Jumped (jump_of load)) (Outcome.Jumps (jump_of load))) (enters session (Stage.Data by (advanced load (length bytes))) Outcome.Taken) (Opens port)
       (λ e. refl) (λ e. same)
 
 -- Along a run, every item that is not wanted is passed by.

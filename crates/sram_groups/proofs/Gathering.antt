@@ -11,7 +11,7 @@ use lib.ListN.{length, take, length-append, length-take}
 use lib.Seq.{take_at, drop_at, drop-drop, take-append-le, take-append-add}
 use Rattle.buffers.specs.Write.{over, over_from, filled}
 use Rattle.buffers.proofs.Lending.{lent, put_back, filled-length}
-use Rattle.octets.proofs.Cases.{by_test}
+use Rattle.std.proofs.lemmas.Bool.{cond_both}
 use Rattle.session_configuration.specs.declared.Configuration.{Configuration}
 use Rattle.sram.specs.Region.{right_size, in_range, stored, stored_in_range}
 use Rattle.sram.proofs.Laws.{stored_none}
@@ -120,5 +120,5 @@ module _ (last : Bool) (address : ℕ) (held bytes : List ℕ) where
   none_written configuration sram none =
       let first = group_of address in
       rw (written_none last address (held ++ bytes) (omega (arith, length-append held bytes)))
-      (by_test (λ (l : List ℕ). l ≡ sram) (stored sram first []) sram (right_size configuration sram && in_range configuration first 0)
+      (cond_both (right_size configuration sram && in_range configuration first 0) (stored sram first []) sram (λ (l : List ℕ). l ≡ sram)
       (λ e. stored_none sram first) (λ e. refl))

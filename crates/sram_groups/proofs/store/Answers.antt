@@ -1,7 +1,7 @@
 -- Two groups have room for the bytes, and not.
 use Rattle.std.proofs.Common.{rules, ◌+◌, ◌%◌, ◌≡◌, ◌++◌, length, take, arith}
 use borrow.Author.Tests.{le-leb, lt-leb}
-use Rattle.octets.proofs.Taking.{take_least}
+use Rattle.std.proofs.lemmas.List.{take_min}
 use Rattle.sram_groups.specs.Groups.{stored_within}
 use Rattle.sram_groups.proofs.Gathering.{together-length}
 use Rattle.sram_groups.proofs.store.Goals as goal
@@ -16,7 +16,7 @@ returns-then-bytes-from c =
       c.store_full.ensures,
       c.least-few.ensures,
       c.from.ensures,
-      take_least a.count 8 a.held eight,
+      (rw eight at (take_min a.count a.held)),
       le-leb (a.address % 8 + length (take a.count a.held ++ a.bytes.now)) 16 (omega (arith, c.if-bytes-from.true, c.least-few.ensures, many)),
     )
 
