@@ -1,13 +1,14 @@
 -- The text for a capture, record by record and window by window.
-use Prim.Native.Nat.{ℕ, zero, suc, ◌+◌, ◌-◌, ◌≤◌, ◌<◌}
+use Prim.Native.Nat.{ℕ, zero, suc, ◌+◌, ◌≤◌, ◌<◌}
 use native.Mathlib.Omega.{arith}
 use mathlib.Core.Path.{◌≡◌, refl, sym, ap, ◌∙◌}
 use mathlib.Core.List.{List, [], ◌++◌, append-nil, append_assoc}
-use mathlib.Core.Bool.{Bool, true, false, cond, not, ◌&&◌, ◌||◌, and-eq-true_iff, false≢true}
-use borrow.Author.Tests.{eqb-true, eqb-false, leb-true, not-true}
-use lib.Dec.{eqb, leb, ltb}
+use mathlib.Core.Bool.{Bool, true, false, cond, ◌||◌, false≢true}
+use borrow.Author.Tests.{eqb-true, eqb-false, leb-true}
+use lib.Dec.{eqb, leb}
 use lib.ListN.{length, drop, length-drop}
 use lib.Seq.{take-append-le, take-append_seam, drop-append-le, drop-drop}
+use Rattle.std.proofs.lemmas.Bool.Decides.{nat_tests}
 use Rattle.capture.specs.Records.{Read, found}
 use Rattle.capture.proofs.Laws.{found_next}
 use Rattle.capture.proofs.Window.{window as fourteen}
@@ -109,13 +110,7 @@ module _ (window : List ℕ) (last : Bool) (room : ℕ) (rest : List ℕ) (none 
   -- what `ready` means
   ready_means : (p : Playing) → ready window last room p ≡ true → (p.ended ≡ false) × (last || leb 14 (length (drop p.at window)) ≡ true)
   unfolding ready
-  ready_means p h =
-      let enough = last || leb 14 (length window - p.at) in
-      let free = leb 96 (room - length p.text) in
-      let a = (and-eq-true_iff (not p.ended && enough && free) (ltb p.kept.ordinal 0xFFFF_FFFF_FFFF_FFFF)).0 h in
-      let b = (and-eq-true_iff (not p.ended && enough) free).0 a.0 in
-      let c = (and-eq-true_iff (not p.ended) enough).0 b.0 in
-      (not-true p.ended c.0, rw (length-drop p.at window) c.1)
+  ready_means p h = (grind (arith, nat_tests), grind (arith, nat_tests, length-drop))
 
   onward-whole : (p : Playing) → ready window last room p ≡ true → Whole p ≡ Whole (onward window p)
   onward-whole p h =

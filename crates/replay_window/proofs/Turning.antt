@@ -3,10 +3,9 @@ use Prim.Native.Nat.{ℕ, zero, suc, ◌+◌, ◌-◌, ◌≤◌, ◌<◌}
 use native.Mathlib.Omega.{arith}
 use mathlib.Core.Path.{◌≡◌, refl, sym, ap, ◌∙◌}
 use mathlib.Core.List.{List, [], ◌++◌}
-use mathlib.Core.Bool.{Bool, true, false, cond, not, ◌&&◌, ◌||◌, and-eq-true_iff}
-use borrow.Author.Tests.{leb-true, ltb-true, not-true}
-use lib.Dec.{leb, ltb}
+use mathlib.Core.Bool.{Bool, true, false, cond}
 use lib.ListN.{length, drop, length-append, length-drop}
+use Rattle.std.proofs.lemmas.Bool.Decides.{nat_tests}
 use Rattle.buffers.specs.Write.{over}
 use Rattle.replay_lines.specs.Output.{Output, as_output, appended}
 use Rattle.replay_lines.proofs.Laws.{appended-behind}
@@ -75,18 +74,7 @@ module _ (window : List ℕ) (last : Bool) (kept : Carried) (first : List ℕ) (
   -- what it means: the text has not ended, and the next record's text and ordinal have room
   turning_room : (t : Bool) → Tested t → t ≡ true
       → (played.turn.ended ≡ false) × (played.turn.used + 96 ≤ length out) × (played.turn.ordinal < 0xFFFF_FFFF_FFFF_FFFF)
-  turning_room t e yes-ready =
-      let turn = played.turn in
-      let readable = not turn.ended && (last || leb 14 (length window - turn.at)) in
-      let free = leb 96 (length out - turn.used) in
-      let counts = ltb turn.ordinal 0xFFFF_FFFF_FFFF_FFFF in
-      let a = (and-eq-true_iff (readable && free) counts).0 (sym e ∙ yes-ready) in
-      let b = (and-eq-true_iff readable free).0 a.0 in
-      let c = (and-eq-true_iff (not turn.ended) (last || leb 14 (length window - turn.at))).0 b.0 in (
-        not-true turn.ended c.0,
-        omega (arith, leb-true 96 (length out - turn.used) b.1),
-        ltb-true turn.ordinal 0xFFFF_FFFF_FFFF_FFFF a.1,
-      )
+  turning_room t e yes-ready = (grind (arith, nat_tests), grind (arith, nat_tests), grind (arith, nat_tests))
 
   -- when the next record can't be read the definition is done
   pub turning_last : (t : Bool) → Tested t → t ≡ false → as_call_result played sram out ≡ result_after (played_in window last (length first) kept) first
