@@ -3,10 +3,11 @@ use Prim.Native.Nat.{ℕ, zero, suc, ◌+◌, ◌-◌, ◌/◌, ◌≤◌}
 use native.Mathlib.Nat.{zero-add, suc-add}
 use native.Mathlib.Omega.{arith}
 use mathlib.Core.Path.{◌≡◌, refl, sym, ap, ◌∙◌}
-use mathlib.Core.List.{List, [], ◌∷◌, ◌++◌, map, append_assoc}
+use mathlib.Core.List.{List, [], ◌∷◌, ◌++◌, map, map-map, append_assoc}
 use borrow.Author.Tests.{lt-ltb, le-ltb}
 use lib.ListN.{length, take, drop}
 use lib.Seq.{take_all, take_at, drop-drop}
+use Rattle.std.proofs.lemmas.List.{map-append}
 use Rattle.session_state.specs.declared.Port.{Port}
 use Rattle.session_items.specs.declared.Role.{Role}
 use Rattle.session_items.specs.declared.Source.{Source}
@@ -88,14 +89,6 @@ module _ (sender : Sender) (image : List ℕ) where
 abbrev clean : ℕ → Item
 clean byte = Item.Of (Source.Serial 0) (byte ∷ [])
 
-each : (list : List ℕ) → map (Item.Of (Source.Serial 0)) (map (λ byte. byte ∷ []) list) ≡ map clean list
-each [] = refl
-each (byte ∷ list) = ap (λ l. clean byte ∷ l) (each list)
-
-joined : (first rest : List ℕ) → map clean first ++ map clean rest ≡ map clean (first ++ rest)
-joined [] rest = refl
-joined (byte ∷ first) rest = ap (λ l. clean byte ∷ l) (joined first rest)
-
 module _ (sender : Sender) (image : List ℕ) (eight : length sender.configuration.password ≡ 8) where
   abbrev password : List ℕ
   password = sender.configuration.password
@@ -148,7 +141,7 @@ module _ (sender : Sender) (image : List ℕ) (eight : length sender.configurati
   role_items role place inside none =
       let all = sent_as role own image in
       walk_role own image role (length all) place inside
-      ∙ rw (none, ones all) (each all)
+      ∙ rw (none, ones all) (map-map (Item.Of (Source.Serial 0)) (λ byte. byte ∷ []) all)
 
   by_serial_lem : walk own image (item_count Port.Serial (length image)) 0 ≡ items_of own image
   by_serial_lem =
@@ -162,7 +155,7 @@ module _ (sender : Sender) (image : List ℕ) (eight : length sender.configurati
       rw count
       (walk_add own image 8 (8 + length image) 0
       ∙ ap (λ l. walk own image 8 0 ++ l) (walk_add own image 8 (length image) 8)
-      ∙ rw (first, second, third, joined header image, joined password (header ++ image))
+      ∙ rw (first, second, third, ← map-append clean header image, ← map-append clean password (header ++ image))
       (ap (map clean) (sym (append_assoc password header image))))
 
   by_port : (port : Port) → walk (load port) image (item_count port (length image)) 0 ≡ items_of (load port) image

@@ -4,10 +4,11 @@ use native.Mathlib.Omega.{arith}
 use mathlib.Core.Path.{◌≡◌, refl, ap}
 use mathlib.Core.List.{List, [], ◌∷◌}
 use mathlib.Core.Bool.{Bool, true, false, cond}
-use borrow.Author.Tests.{ltb-true, ltb-false, eq-eqb}
-use lib.Dec.{ltb}
+use borrow.Author.Tests.{eq-eqb}
 use lib.ListN.{take}
 use Rattle.std.specs.Prelude.{Result, Ok}
+use Rattle.std.proofs.Common.{inl, inr}
+use Rattle.std.proofs.lemmas.Bool.{cases_lt}
 use Rattle.octets.proofs.Comparing.{same_own}
 use Rattle.session_state.specs.declared.Port.{Port}
 use Rattle.session_state.specs.declared.Session.{Session}
@@ -36,11 +37,7 @@ own_echo Port.Serial echo = rw (same_own (take echo.length echo.bytes))
 
 -- one of two cases
 pub split : {X : Type 0} (a b : ℕ) → (a < b → X) → (b ≤ a → X) → X
-split {X = X} a b below above = either (ltb a b) refl
-  where
-    either : (t : Bool) → ltb a b ≡ t → X
-    either true e = below (ltb-true a b e)
-    either false e = above (ltb-false a b e)
+split a b below above = elim (cases_lt a b) [ inl h ↦ below h | inr h ↦ above h ]
 
 -- whether an item is out changes neither the soundness of a load nor its item
 module _ (sender : Sender) (image : List ℕ) (place : ℕ) (out : Bool) where
