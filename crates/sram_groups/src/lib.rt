@@ -49,6 +49,7 @@ fn gather(from: usize, held: &[u8], bytes: &[u8]) -> [u8; 16]
 }
 
 // Stores the groups that are full. A byte that fills none is not gathered.
+#[tactic(auto, using(crate::proofs::Gathering::gathered_written, crate::proofs::Gathering::none_written))]
 fn store_full(
     configuration: Configuration,
     sram: &mut [u8],
@@ -70,6 +71,7 @@ fn store_full(
 
 // Stores what is full of the groups of the bytes held, which begin at an address, and of more behind them. Of bytes for which two groups have
 // no room none is stored.
+#[tactic(auto, using(crate::proofs::Gathering::within_two, crate::proofs::Gathering::beyond_two))]
 pub fn store(
     configuration: Configuration,
     sram: &mut [u8],
