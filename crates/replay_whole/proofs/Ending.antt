@@ -1,12 +1,12 @@
 -- The text ends: once the capture has been read to its end, a call ends the text or takes some of the bytes still to be played.
-use Prim.Native.Nat.{ℕ, zero, suc, ◌+◌, ◌-◌, ◌≤◌, ◌<◌}
+use Prim.Native.Nat.{ℕ, zero, suc, ◌+◌, ◌≤◌, ◌<◌}
 use native.Mathlib.Omega.{arith}
 use mathlib.Core.Path.{◌≡◌, refl, sym, ap, ◌∙◌}
 use mathlib.Core.List.{List, [], ◌∷◌, ◌++◌}
 use mathlib.Core.Bool.{Bool, true, false, cond, ◌||◌, false≢true}
-use borrow.Author.Tests.{le-leb, lt-ltb}
 use lib.Dec.{leb}
 use lib.ListN.{length, drop, replicate, length-append, length-drop}
+use Rattle.std.proofs.lemmas.Bool.Decides.{nat_tests}
 use Rattle.replay_record.specs.Beginning.{Carried}
 use Rattle.replay_window.specs.Windows.{Playing, at_first, onward, ready, plays, played_in, Between, on_window}
 use Rattle.replay_window.proofs.Continuing.{printing-within}
@@ -89,9 +89,7 @@ ready_first : (window : List ℕ) (last : Bool) (room : ℕ) (kept : Carried) �
     → last || leb 14 (length window) ≡ true
     → ready window last room (at_first kept) ≡ true
 unfolding ready
-ready_first window last room kept wide small seen =
-    let none : length window - 0 ≡ length window = omega arith in
-    rw (none, seen, le-leb 96 (room - 0) (omega (arith, wide)), lt-ltb kept.ordinal 0xFFFF_FFFF_FFFF_FFFF small)
+ready_first window last room kept wide small seen = grind (arith, nat_tests)
 
 module _ (room : ℕ) where
   -- after the text has ended there are no more calls
@@ -100,11 +98,7 @@ module _ (room : ℕ) where
   over-called b (reading ∷ readings) e = over-called (called room b reading) readings (rw e)
 
   not_over : (b : Between) (readings : List Reading) → (calls room b readings).ended ≡ false → b.ended ≡ false
-  not_over b readings e = by_ended b.ended refl
-    where
-      by_ended : (t : Bool) → b.ended ≡ t → b.ended ≡ false
-      by_ended true o = absurd (false≢true (sym e ∙ over-called b readings o))
-      by_ended false o = o
+  not_over b readings e = grind (arith, over-called)
 
   call_on : (b : Between) (reading : Reading) → b.ended ≡ false
       → called room b reading ≡ behind b (on_window (window_of b reading) reading.last room b.kept)
