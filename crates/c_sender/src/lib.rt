@@ -34,14 +34,14 @@ pub fn sender_numbers(sender: Sender) -> [u32; SENDER_WIDTH]
     ]
 }
 
-// The flag and the port of a number. Neither is a `From`: no type of theirs is of this crate. `c_session::read_port`, below it, reads a port of
-// its own numbers so too; this one is public, so it stays.
+// The flag and the port of a number. Neither is a `From`: no type of theirs is of this crate.
 pub fn flag_of(number: u32) -> bool
     ensures { result ≡ flag_of number }
 {
     number != 0
 }
 
+// `c_session::read_port`, below this crate, tests the same of a session's numbers; this one is public, so it stays.
 pub fn port_of(number: u32) -> Port
     ensures { result ≡ port_for number }
 {

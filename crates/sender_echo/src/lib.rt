@@ -27,11 +27,11 @@ fn is_heard_under(port: Port, heard: Port, due: u32, identifier: u32) -> bool
 }
 
 // Whether what is heard is the echo due.
-#[tactic(auto, using(octets::proofs::Taking::take_least, octets::proofs::Comparing::same_pointwise), unfolding(crate::specs::Hearing::is_echo))]
+#[tactic(auto, using(std::proofs::lemmas::List::take_min, octets::proofs::Comparing::same_pointwise), unfolding(crate::specs::Hearing::is_echo))]
 pub fn is_echo(port: Port, due: Echo, heard: Heard) -> bool
     ensures { result ≡ is_echo port due heard.entry.port heard.entry.identifier heard.entry.bytes.now }
 {
-    let count = octets::least(usize::from(due.length), 8);
+    let count = octets::least(usize::from(due.length), due.bytes.len());
     is_heard_under(port, heard.port, due.identifier, heard.identifier)
         && heard.bytes == &due.bytes[..count]
 }
