@@ -9,7 +9,7 @@ use session_items::Role;
 use session_state::{Jump, Port, Refusal, Session};
 
 // The echo: the first `length` of `bytes`, for CAN under an identifier, which is 0 for serial and where nothing is echoed. The bytes are eight with
-// zeroes behind, as they cross the C interface.
+// zeroes behind, since an answer for C fills eight places (`c_answer: Writing.echo_bytes`).
 #[derive(Clone, Copy)]
 pub struct Echo {
     pub identifier: u32,

@@ -25,7 +25,7 @@ pub enum Role {
     Data(Load),
 }
 
-// What a stage does with an item.
+// What a stage does with an item. Role and port stay two values, since the table `counts_as` and all that comes of it go by each of them.
 #[derive(Clone, Copy)]
 pub enum Reaction {
     Ignores,
@@ -66,7 +66,7 @@ impl Item<'_> {
         ensures { result ≡ well_formed self.now }
     {
         match self.source {
-            Source::Can(identifier) => (identifier <= 2047) & (self.bytes.len() <= 8),
+            Source::Can(identifier) => identifier <= 2047 && self.bytes.len() <= 8,
             Source::Serial(_) => self.bytes.len() == 1,
         }
     }
@@ -76,7 +76,7 @@ impl Item<'_> {
         ensures { result ≡ eight_under wanted self.now }
     {
         match self.source {
-            Source::Can(identifier) => (identifier == wanted) & (self.bytes.len() == 8),
+            Source::Can(identifier) => identifier == wanted && self.bytes.len() == 8,
             Source::Serial(_) => false,
         }
     }
@@ -88,7 +88,7 @@ impl Item<'_> {
         let count = self.bytes.len();
         match self.source {
             Source::Can(identifier) => {
-                (identifier == 0x013) & (1 <= count) & (count <= 8) & (count <= owed as usize)
+                identifier == 0x013 && 1 <= count && count <= 8 && count <= owed as usize
             }
             Source::Serial(_) => false,
         }
@@ -100,7 +100,7 @@ impl Item<'_> {
     {
         match self.source {
             Source::Can(_) => false,
-            Source::Serial(mark) => (self.bytes.len() == 1) & (mark == 0),
+            Source::Serial(mark) => self.bytes.len() == 1 && mark == 0,
         }
     }
 
@@ -110,7 +110,7 @@ impl Item<'_> {
     {
         match self.source {
             Source::Can(_) => false,
-            Source::Serial(mark) => (self.bytes.len() == 1) & (mark != 0),
+            Source::Serial(mark) => self.bytes.len() == 1 && mark != 0,
         }
     }
 

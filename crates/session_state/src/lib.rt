@@ -54,7 +54,8 @@ pub enum Stage {
 }
 
 // A session: what the boot choice fixed for it, its stage, and the password or header bytes held so far, which are the first `count`
-// of `held`.
+// of `held`. These two are no slice or type with an invariant, since C hands in any count, and one that does not fit is answered by 8
+// (`Sound.sound`).
 #[derive(Clone, Copy)]
 pub struct Session {
     pub configuration: Configuration,
@@ -67,10 +68,10 @@ pub struct Session {
 fn does_load_fit(configuration: Configuration, load: Load) -> bool
     ensures { result ≡ load_fits configuration load }
 {
-    (1 <= load.owed)
-        & sram::is_in_range(configuration, load.next, load.owed)
-        & sram::is_aligned(configuration, load.start)
-        & (load.start.0 <= load.next)
+    1 <= load.owed
+        && sram::is_in_range(configuration, load.next, load.owed)
+        && sram::is_aligned(configuration, load.start)
+        && load.start.0 <= load.next
 }
 
 // Whether a session's counts fit its stage.
@@ -80,9 +81,9 @@ pub fn is_sound(session: Session) -> bool
 {
     let count = session.count;
     match session.stage {
-        Stage::Password => (1 <= count) & (count <= 7),
+        Stage::Password => 1 <= count && count <= 7,
         Stage::Header(Port::Serial) => count <= 7,
-        Stage::Data(_, load) => (count == 0) & does_load_fit(session.configuration, load),
+        Stage::Data(_, load) => count == 0 && does_load_fit(session.configuration, load),
         Stage::Waiting | Stage::Header(Port::Can) | Stage::Stopped(_) | Stage::Jumped(_) => {
             count == 0
         }
