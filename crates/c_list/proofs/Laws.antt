@@ -6,7 +6,7 @@ use mathlib.Core.Path.{◌≡◌, refl, sym, ap, ◌∙◌}
 use mathlib.Core.List.{List, append_assoc}
 use mathlib.Core.Bool.{Bool, true, false}
 use borrow.Author.Tests.{eq-eqb}
-use borrow.Rule.Slice.PartMut.{mid_of, put_mid, mid_len, put_same}
+use borrow.Rule.Slice.PartMut.{mid_of, put_mid, mid_len}
 use lib.Seq.{drop-drop}
 use lib.ListN.{length}
 use Rattle.buffers.specs.Write.{over_from}
@@ -19,11 +19,16 @@ use Rattle.session_answers.specs.Answers.{outcome_number, precheck, unchanged}
 use Rattle.session_answers.proofs.Laws.{precheck_passed}
 use Rattle.session.specs.Rules.{step}
 use Rattle.session.proofs.Answered.{IsAnswer, answered, refused, step-number}
-use Rattle.c_answer.specs.Writing.{Flat, as_flat, echo_width, answer_width, echo_bytes, answer_numbers, answer_flat, answer_places}
+use Rattle.c_answer.specs.Writing.{Flat, as_flat, echo_width, answer_width, echo_bytes, answer_numbers, answer_flat, answer_places, answer_put}
 use Rattle.c_answer.proofs.Whole.{answer-length}
 use Rattle.c_session.specs.Reading.{session_in}
 use Rattle.c_items.specs.Calls.{Reply, as_reply, item_precheck, leaves, item_reply, ItemClaim}
 use Rattle.c_list.specs.Calls.{answer_at}
+
+-- an answer that has its places is written
+pub put_there : (given : Answer) (flat : Flat) → answer_places flat ≡ true → answer_put given flat ≡ answer_flat given
+unfolding answer_put
+put_there given flat there = rw there
 
 -- the places of answer i, lent and given back
 abbrev pub echo_part : ℕ → List ℕ → List ℕ
@@ -54,10 +59,6 @@ module _ (i : ℕ) (echoes answers : List ℕ) (e : echo_width * i + echo_width 
   parts_answered answer =
       λ k. as_flat (part-over (echo_width * i) echo_width (echo_bytes answer) echoes refl k)
       (part-over (answer_width * i) answer_width (answer_numbers answer) answers (answer-length answer) k)
-
-  -- and parts that were left as they were
-  pub parts_kept : put_parts i echoes answers (as_flat (echo_part i echoes) (answer_part i answers)) ≡ as_flat echoes answers
-  parts_kept = λ k. as_flat (put_same (echo_width * i) (echo_width * i + echo_width - echo_width * i) echoes k) (put_same (answer_width * i) (answer_width * i + answer_width - answer_width * i) answers k)
 
 -- an answer of the rules is not 6
 not_six : (outcome : Outcome) → IsAnswer outcome → outcome_number outcome ≡ 6 → ⊥

@@ -55,22 +55,8 @@ impl Items<'_> {
     }
 }
 
-// Writes the answer to item i, which is refused for its form.
-fn put_refused(echoes: &mut [u8], answers: &mut [u32], i: usize)
-    requires { (echo_width * i + echo_width ≤ length echoes.old) × (answer_width * i + answer_width ≤ length answers.old) }
-    ensures { as_flat echoes.new answers.new
-        ≡ answer_at i (without_echo (Outcome.Refused Fault.Form)) (as_flat echoes.old answers.old) }
-{
-    let from = ECHO_WIDTH * i;
-    let at = ANSWER_WIDTH * i;
-    c_answer::put_answer(
-        &mut echoes[from..from + ECHO_WIDTH],
-        &mut answers[at..at + ANSWER_WIDTH],
-        session_answers::without_echo(Outcome::Refused(Fault::Form)),
-    );
-}
-
-// Hands in item i, and writes its answer at its place.
+// Hands in item i, and writes its answer at its place, also where it is refused for its form. Session, SRAM and answers are a parameter each, as C lends
+// them: a struct of them would be made here and taken apart in `c_items::item`.
 fn hand_in_at(
     session_bytes: &mut [u8],
     session: &mut [u32],
@@ -88,16 +74,12 @@ fn hand_in_at(
 {
     let from = ECHO_WIDTH * i;
     let at = ANSWER_WIDTH * i;
-    let number = c_items::item(
-        session_bytes,
-        session,
-        sram,
-        item,
-        &mut echoes[from..from + ECHO_WIDTH],
-        &mut answers[at..at + ANSWER_WIDTH],
-    );
+    let echo = &mut echoes[from..from + ECHO_WIDTH];
+    let answer = &mut answers[at..at + ANSWER_WIDTH];
+    let number = c_items::item(session_bytes, session, sram, item, echo, answer);
     if number == u8::from(Fault::Form) {
-        put_refused(echoes, answers, i);
+        let refused = session_answers::without_echo(Outcome::Refused(Fault::Form));
+        c_answer::put_answer(echo, answer, refused);
     }
 }
 
