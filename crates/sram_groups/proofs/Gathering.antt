@@ -1,5 +1,5 @@
 -- Two groups of zeroes with bytes in them: those gathered, and of these the groups that are full.
-use Prim.Native.Nat.{ℕ, ◌+◌, ◌-◌, ◌*◌, ◌/◌, ◌%◌, ◌<◌, ◌≤◌, min}
+use Prim.Native.Nat.{ℕ, ◌+◌, ◌-◌, ◌*◌, ◌/◌, ◌%◌, ◌<◌, ◌≤◌}
 use native.Mathlib.Omega.{arith}
 use mathlib.Core.Path.{◌≡◌, refl, sym, ap, ◌∙◌}
 use mathlib.Core.List.{List, [], ◌++◌, append_assoc}
@@ -7,41 +7,29 @@ use mathlib.Core.Bool.{Bool, true, false, ◌&&◌}
 use borrow.Author.Tests.{leb-true, leb-false, le-leb, lt-leb}
 use borrow.Rule.Slice.PartMut.{same_len_mid}
 use lib.Dec.{leb}
-use lib.ListN.{length, take, length-append, length-take}
+use lib.ListN.{length, take, length-append}
 use lib.Seq.{take_at, drop_at, drop-drop, take-append-le, take-append-add}
 use Rattle.buffers.specs.Write.{over, over_from, filled}
 use Rattle.buffers.proofs.Lending.{lent, put_back, filled-length}
 use Rattle.std.proofs.lemmas.Bool.{cond_both}
-use Rattle.std.proofs.lemmas.List.{take_min}
 use Rattle.session_configuration.specs.declared.Configuration.{Configuration}
 use Rattle.sram.specs.Region.{right_size, in_range, stored, stored_in_range}
 use Rattle.sram.proofs.Laws.{stored_none}
 use Rattle.sram_groups.specs.Groups.{group_of, zeros, full_groups, behind, written, stored_within}
 use Rattle.sram_groups.proofs.Laws.{zeros-length, zeros-take, zeros-drop, behind_few, written_none}
 
--- how many bytes there are, those held and more behind them
-pub together-length : (count : ℕ) (held bytes : List ℕ) → length held ≡ 8 → length (take count held ++ bytes) ≡ min count 8 + length bytes
-together-length count held bytes eight =
-    length-append (take count held) bytes ∙ omega (arith, rw eight at (length-take count held))
-
 -- where two groups have room for the bytes held and more behind them, and where not
-module _ (configuration : Configuration) (last : Bool) (sram : List ℕ) (address : ℕ) (held : List ℕ) (count : ℕ) (bytes : List ℕ)
-    (eight : length held ≡ 8) where
-  pub within_two : length bytes ≤ 16 - (address % 8 + min count 8)
-      → stored_within configuration last sram address (take count held ++ bytes)
-      ≡ stored_in_range configuration sram (group_of address) (written last address (take (min count 8) held ++ bytes))
+module _ (configuration : Configuration) (last : Bool) (sram : List ℕ) (address : ℕ) (held bytes : List ℕ) where
+  pub within_two : address % 8 + length held + length bytes ≤ 16
+      → stored_within configuration last sram address (held ++ bytes)
+      ≡ stored_in_range configuration sram (group_of address) (written last address (held ++ bytes))
   unfolding stored_within
-  within_two room =
-      rw (
-        (rw eight at (take_min count held)),
-        le-leb (address % 8 + length (take count held ++ bytes)) 16 (omega (arith, room, together-length count held bytes eight)),
-      )
+  within_two room = rw (le-leb (address % 8 + length (held ++ bytes)) 16 (omega (arith, room, length-append held bytes)))
 
-  pub beyond_two : 16 - (address % 8 + min count 8) < length bytes
-      → stored_within configuration last sram address (take count held ++ bytes) ≡ sram
+  pub beyond_two : 16 < address % 8 + length held + length bytes
+      → stored_within configuration last sram address (held ++ bytes) ≡ sram
   unfolding stored_within
-  beyond_two more =
-      rw (lt-leb (address % 8 + length (take count held ++ bytes)) 16 (omega (arith, more, together-length count held bytes eight)))
+  beyond_two more = rw (lt-leb (address % 8 + length (held ++ bytes)) 16 (omega (arith, more, length-append held bytes)))
 
 -- bytes laid from a place on leave the length
 pub laid-length : (at : ℕ) (bytes list : List ℕ) → at + length bytes ≤ length list → length (over_from at bytes list) ≡ length list

@@ -1,7 +1,7 @@
 // SRAM written in groups of 8 bytes (02, E4): how many bytes of an unfinished group are held, and what is stored of it.
 #![tactic(auto)]
 
-ghost use Rattle.std.specs.Prelude.{◌≡◌, ◌++◌, ◌+◌, ◌*◌, ◌/◌, ◌%◌, ◌≤◌, max, length, take};
+ghost use Rattle.std.specs.Prelude.{◌≡◌, ◌++◌, ◌+◌, ◌*◌, ◌/◌, ◌%◌, ◌≤◌, max, length};
 ghost use Rattle.buffers.specs.Write.{over};
 ghost use Rattle.sram.specs.Region.{stored_in_range};
 ghost use Rattle.sram_groups.specs.Groups.{group_of, held_count, zeros, behind, written, stored_within};
@@ -76,16 +76,14 @@ pub fn store(
     configuration: Configuration,
     sram: &mut [u8],
     address: u32,
-    held: [u8; 8],
-    count: u8,
+    held: &[u8],
     bytes: &[u8],
     last: bool,
 )
-    ensures { sram.new ≡ stored_within configuration «last» sram.old address (take count held ++ bytes.now) }
+    ensures { sram.new ≡ stored_within configuration «last» sram.old address (held.now ++ bytes.now) }
 {
-    let few = octets::least(usize::from(count), 8);
     let from = (address % 8) as usize;
-    if bytes.len() <= 16 - (from + few) {
-        store_full(configuration, sram, address, &held[..few], bytes, last);
+    if held.len() <= 16 - from && bytes.len() <= 16 - (from + held.len()) {
+        store_full(configuration, sram, address, held, bytes, last);
     }
 }
