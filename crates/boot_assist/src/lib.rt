@@ -1,4 +1,4 @@
-// The C interface (include/boot_assist.h): the names of the calls.
+// The C interface (include/boot_assist.h): the names of the calls. Their parameters and numbers are the interface's, so they stay as they are.
 #![tactic(auto)]
 
 ghost use Rattle.std.specs.Prelude.{◌≡◌, [], ◌∷◌};

@@ -60,6 +60,7 @@ fn step_record(session: Session, sram: &mut [u8], read: Record) -> StepResult
     if matches!(read.kind, Kind::Reset) {
         return session_answers::take_nothing(session_fresh::reset_session(), Outcome::Taken);
     }
+    // These two of `session_items` promise an answer for every number, so they keep a number.
     let kind = u8::from(read.kind);
     let from = session_items::leading_bytes(kind).min(read.body.len());
     let item = Item {

@@ -105,6 +105,7 @@ fn is_ready(window: &[u8], last: bool, turn: Turn, room: usize) -> bool
 
 // The records of a window, from its start on, as long as the next one can be read and printed. The window is a part of the
 // capture, and `last` is whether the capture ends with it. The text is written at the start of the output.
+// The parameters stay apart: `play_window` lends its window mutably and keeps the others in its `Progress`, so a struct would only be taken apart.
 pub fn play(
     window: &[u8],
     last: bool,
