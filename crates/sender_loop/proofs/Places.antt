@@ -63,16 +63,12 @@ module _
   bytes_at : (place : ℕ) → at_item sender.port place ≡ true → length (bytes_of (item_at sender image place)) ≡ min wide (end - place)
   bytes_at place e =
       let room = item_room sender.port place e in
-      split place 8
-      (λ low. role_bytes Role.Password place (rw (lt-ltb place 8 low))
-      ∙ min-eq_left (omega (arith, eight, room.0 low))
-      ∙ sym (min-eq_left (omega (arith, room.0 low))))
-      (λ high. split place 16
-      (λ low. role_bytes Role.Header place (rw (le-ltb place 8 high, lt-ltb place 16 low))
-      ∙ min-eq_left (omega (arith, room.1 high low))
-      ∙ sym (min-eq_left (omega (arith, room.1 high low))))
-      (λ last. role_bytes (Role.Data (whole_load sender)) place (rw (le-ltb place 8 high, le-ltb place 16 last))
-      ∙ ap (min wide) (omega (arith, whole))))
+      grind (
+        arith,
+        role_bytes Role.Password place,
+        role_bytes Role.Header place,
+        role_bytes (Role.Data (whole_load sender)) place,
+      )
 
   -- what begins at a place behind another
   abbrev begun : ℕ → ℕ → List Item
@@ -93,10 +89,7 @@ module _
   begun-next : (place more : ℕ) → wide ≤ more → begun (place + wide) (more - wide) ≡ begun place more
   begun-next place more h =
       let further : place + wide + (more - wide) ≡ place + more = omega arith in
-      let test : ltb (more - wide) (end - (place + wide)) ≡ ltb more (end - place) =
-      split more (end - place)
-      (λ less. lt-ltb (more - wide) (end - (place + wide)) (omega arith) ∙ sym (lt-ltb more (end - place) less))
-      (λ past. le-ltb (more - wide) (end - (place + wide)) (omega arith) ∙ sym (le-ltb more (end - place) past)) in
+      let test : ltb (more - wide) (end - (place + wide)) ≡ ltb more (end - place) = grind arith in
       rw (further, test, item_back sender.port more h)
 
   found : (count place more : ℕ) → Reaches sender.port end count place → at_item sender.port place ≡ true → place < end
