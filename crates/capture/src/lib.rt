@@ -102,7 +102,7 @@ fn find_header(bytes: &[u8]) -> Result<(Kind, usize), Damaged>
 }
 
 // The record at a place, or none at the end of the capture.
-#[tactic(auto, using(crate::proofs::Laws::header_room, crate::proofs::Laws::reads_past, crate::proofs::Laws::reads_end, crate::proofs::Laws::reads_bad, crate::proofs::Laws::reads_good, crate::proofs::Laws::good_place))]
+#[tactic(auto, using(crate::proofs::Laws::places))]
 pub fn read<'a>(capture: &'a [u8], at: usize) -> Result<Option<Record<'a>>, Damaged>
     ensures given { as_read at result ≡ reads capture.now at }
     ensures place { IfOk result (λ found. IfSome found (λ one. one.body.ref_ptr ≡ beyond capture.entry.ref_ptr (body_at capture.now at))) }
