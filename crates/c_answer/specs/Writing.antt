@@ -65,4 +65,4 @@ abbrev pub answer_places : Flat → Bool
 answer_places flat = room_for echo_width answer_width flat
 
 unfoldable pub answer_put : Answer → Flat → Flat
-answer_put answer flat = cond (answer_places flat) (answer_flat answer) flat
+answer_put answer flat = put echo_width answer_width (answer_flat answer) flat

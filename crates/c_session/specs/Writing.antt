@@ -1,5 +1,5 @@
 -- Sessions as bytes and numbers, in the order of include/boot_assist.h.
-use Rattle.std.specs.Prelude.{ℕ, List, [], ◌∷◌, ◌++◌, Bool, cond, ◌&&◌, eqb, length}
+use Rattle.std.specs.Prelude.{ℕ, List, [], ◌∷◌, ◌++◌, Bool}
 use Rattle.octets.specs.Read.{first_eight}
 use Rattle.session_configuration.specs.declared.Configuration.{Configuration}
 use Rattle.session_state.specs.declared.Port.{Port}
@@ -7,7 +7,7 @@ use Rattle.session_state.specs.declared.Session.{Session}
 use Rattle.session_state.specs.declared.Stage.{Stage}
 use Rattle.session_state.specs.Accepted.{accepted_vle}
 use Rattle.session_answers.specs.Answers.{refusal_number}
-use Rattle.c_answer.specs.Writing.{Flat, as_flat, bit, entered_number}
+use Rattle.c_answer.specs.Writing.{Flat, as_flat, room_for, put, bit, entered_number}
 
 abbrev pub stage_number : Stage → ℕ
 stage_number Stage.Waiting = 0
@@ -65,7 +65,7 @@ session_width = 9
 
 -- places for a session; and a session that is written: lists of other lengths are left as they are
 abbrev pub session_places : Flat → Bool
-session_places flat = eqb (length flat.bytes) session_bytes_width && eqb (length flat.numbers) session_width
+session_places flat = room_for session_bytes_width session_width flat
 
 unfoldable pub session_put : Session → Flat → Flat
-session_put session flat = cond (session_places flat) (session_flat session) flat
+session_put session flat = put session_bytes_width session_width (session_flat session) flat
