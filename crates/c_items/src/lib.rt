@@ -53,7 +53,7 @@ pub fn item_precheck(session: Session, sram: &[u8], formed: bool, placed: bool) 
     Ok(())
 }
 
-// One item.
+// One item. Session, SRAM and answer are a parameter each, as C lends them: a struct of them would be made in each call and taken apart here.
 pub fn item(
     session_bytes: &mut [u8],
     session: &mut [u32],
