@@ -16,7 +16,7 @@ ghost use Rattle.c_list.specs.Calls.{items_of, parts_fit, list_fits, answer_at, 
 use c_answer::{ANSWER_WIDTH, ECHO_WIDTH};
 use session_answers::{Fault, Outcome};
 
-// The items of a list as C hands them in: a kind, an identifier and a count for each, and the bytes of all.
+// The items of a list as C hands them in, by `boot_assist_flat_list`: lists of kinds, identifiers and counts beside each other, and the bytes of all.
 #[derive(Clone, Copy)]
 struct Items<'a> {
     kinds: &'a [u8],
@@ -55,8 +55,8 @@ impl Items<'_> {
     }
 }
 
-// Hands in item i, and writes its answer at its place, also where it is refused for its form. Session, SRAM and answers are a parameter each, as C lends
-// them: a struct of them would be made here and taken apart in `c_items::item`.
+// Hands in item i, and writes its answer at its place, also where it is refused for its form. Session, SRAM and answers are a parameter each,
+// as C lends them: a struct of them would be made here and taken apart in `c_items::item`.
 fn hand_in_at(
     session_bytes: &mut [u8],
     session: &mut [u32],
