@@ -9,10 +9,9 @@ use lib.ListN.{length, drop, length-drop, drop_of_length-le, take-append-drop}
 use lib.Seq.{take_at, drop_at}
 use borrow.Author.Tests.{eqb-true}
 use borrow.Rule.Slice.PartMut.{put_mid}
-use Rattle.std.specs.Cmp.Lexicographic.{pointwise}
 use Rattle.octets.specs.Read.{first_eight}
 use Rattle.octets.specs.Same.{same}
-use Rattle.octets.proofs.Comparing.{same_pointwise, same_equal}
+use Rattle.octets.proofs.Comparing.{same_equal}
 use Rattle.buffers.proofs.Eight.{eight-take, eight-whole}
 use Rattle.session_state.specs.declared.Session.{Session}
 use Rattle.session_state.specs.declared.Stage.{Stage}
@@ -56,18 +55,6 @@ halves selected held rest e f g =
       append-nil,
     )
     (sym (λ i. eight-whole selected e i ++ eight-whole held f i))
-
--- with places for a session, what is read is it where it has those numbers, and else one that is not sound
-module _ (bytes numbers : List ℕ) (there : session_places (as_flat bytes numbers) ≡ true) where
-  pub read_same : pointwise eqb (session_numbers (session_read (as_flat bytes numbers))) numbers ≡ true
-      → session_in (as_flat bytes numbers) ≡ session_read (as_flat bytes numbers)
-  unfolding session_in encodes
-  read_same e = rw (there, rw same_pointwise at e)
-
-  pub read_other : pointwise eqb (session_numbers (session_read (as_flat bytes numbers))) numbers ≡ false
-      → session_in (as_flat bytes numbers) ≡ unsound_session numbers
-  unfolding session_in encodes
-  read_other e = rw (there, rw same_pointwise at e)
 
 -- bytes and numbers that read as a sound session are what it is written as
 pub record IsWritten (flat : Flat) : Type 0 where

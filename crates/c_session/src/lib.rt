@@ -2,6 +2,7 @@
 #![tactic(auto)]
 
 ghost use Rattle.std.specs.Prelude.{◌≡◌, length};
+ghost use Rattle.octets.specs.Same.{same};
 ghost use Rattle.c_answer.specs.Writing.{as_flat};
 ghost use Rattle.c_session.specs.Writing.{stage_number, port_number, port_in, load_numbers, configuration_numbers, session_numbers, session_bytes_width, session_bytes, session_places};
 ghost use Rattle.c_session.specs.Reading.{Written, number_at, port_read, load_read, refusal_read, jump_read, stage_read, configuration_read, session_read, unsound_session, session_in};
@@ -231,9 +232,17 @@ fn unsound(numbers: &[u32]) -> Session
     }
 }
 
+// Whether a session has these numbers.
+#[tactic(auto, using(octets::proofs::Comparing::same_pointwise))]
+fn has_numbers(session: Session, numbers: &[u32]) -> bool
+    ensures { result ≡ same (session_numbers session) numbers.now }
+{
+    session_numbers(session).as_slice() == numbers
+}
+
 // The session of bytes and numbers, or one that is not sound where no session has them.
 // It is no `Option`: `session_in`, by which every call for C is stated, has a session for all bytes and numbers.
-#[tactic(auto, using(crate::proofs::Lengths::read_same, crate::proofs::Lengths::read_other), unfolding(crate::specs::Reading::session_in, crate::specs::Reading::encodes))]
+#[tactic(auto, unfolding(crate::specs::Reading::session_in, crate::specs::Reading::encodes))]
 pub fn read_session(bytes: &[u8], numbers: &[u32]) -> Session
     ensures { result ≡ session_in (as_flat bytes.now numbers.now) }
 {
@@ -241,7 +250,7 @@ pub fn read_session(bytes: &[u8], numbers: &[u32]) -> Session
         return unsound(numbers);
     }
     let read = decode(bytes, numbers);
-    if session_numbers(read).as_slice() == numbers {
+    if has_numbers(read, numbers) {
         read
     } else {
         unsound(numbers)
