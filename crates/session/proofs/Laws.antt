@@ -326,3 +326,6 @@ taken-ready session sram item role port passed e =
       formed_few item h.1,
       placed_room role port session (length (bytes_of item)) (sound_size session fine) taken.placed,
     )
+
+-- for the attribute of `session::hand_in`
+pub ruleset ready = (taken-ready)

@@ -204,7 +204,7 @@ fn stop_by_faulty_byte(session: Session) -> StepResult
 }
 
 // One item.
-#[tactic(auto, unfolding(crate::specs::Rules::step))]
+#[tactic(auto, unfolding(crate::specs::Rules::step), using(crate::proofs::Laws::ready))]
 pub fn hand_in(session: Session, sram: &mut [u8], item: &Item<'_>) -> StepResult
     ensures { result_of result sram.new ≡ step session sram.old item.now }
 {

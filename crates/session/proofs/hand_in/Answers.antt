@@ -11,10 +11,3 @@ invariant_of-taking c =
     (rw c.is_formed.ensures at (sym c.precheck.ensures ∙ c.in_default.is))
     (sym c.react.ensures ∙ c.in-Takes.is)) in
     record { few = ready.1; room = ready.2 }
-
-pub take-requires : goal.take-requires
-take-requires c =
-    let a = c.args in
-    (taken-ready a.session a.sram.now a.item.now c.in-Takes.role c.in-Takes.port
-    (rw c.is_formed.ensures at (sym c.precheck.ensures ∙ c.in_default.is))
-    (sym c.react.ensures ∙ c.in-Takes.is)).0
