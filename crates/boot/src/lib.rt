@@ -39,7 +39,8 @@ pub struct Choice {
     pub password: [u8; 8],
 }
 
-// What the choice is made from: BOOTCFG, the flash, the shadow row and the first bytes of external memory.
+// What the choice is made from: BOOTCFG, the flash, the shadow row and the first bytes of external memory. BOOTCFG is a number, since every
+// one has an answer (`Claim.ChoiceClaim`).
 #[derive(Clone, Copy)]
 pub struct Inputs<'a> {
     pub bootcfg: u32,
@@ -94,7 +95,8 @@ fn boot_from(mode: Mode, memory: &[u8], place: u32, examined: u8, row: Row) -> C
     Choice { boot, password }
 }
 
-// The choice after a search: a boot from the place found, or serial boot.
+// The choice after a search: a boot from the place found, or serial boot. What differs between the two searches is handed over as values, since a
+// closure would only wrap them.
 #[tactic(auto, unfolding(crate::specs::Choosing::settled))]
 fn settle(mode: Mode, entered: Entered, memory: &[u8], search: Search, row: Row) -> Choice
     ensures { result ≡ settled mode entered memory.now search row }

@@ -1,4 +1,5 @@
-// The boot choice, and the session that it gives, on bytes, numbers and lent outputs, as the C interface has them (include/boot_assist.h).
+// The boot choice, and the session that it gives, on bytes, numbers and lent outputs, as the C interface has them (include/boot_assist.h):
+// the numbers that are returned are C's.
 #![tactic(auto)]
 
 ghost use Rattle.std.specs.Prelude.{◌≡◌, length};

@@ -83,7 +83,7 @@ fn hand_in_at(
     }
 }
 
-// Hands in the items of lists that fit, one after another.
+// Hands in the items of lists that fit, one after another. They are counted, since the places of an item's answer go by its number.
 fn run_items(
     session_bytes: &mut [u8],
     session: &mut [u32],

@@ -1,4 +1,5 @@
-// The MMU rows of a choice and of a session on bytes, numbers and a lent output, as the C interface has them (include/boot_assist.h).
+// The MMU rows of a choice and of a session on bytes, numbers and a lent output, as the C interface has them (include/boot_assist.h): the
+// numbers that are returned are C's.
 #![tactic(auto)]
 
 ghost use Rattle.std.specs.Prelude.{◌≡◌, length};

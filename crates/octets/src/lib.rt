@@ -40,7 +40,7 @@ pub fn half(s: &[u8], at: usize) -> u16
     }
 }
 
-// The word at a place.
+// The word at a place. It and `half` are no generic function: the library has no trait of the numbers that have `from_be_bytes`.
 pub fn word(s: &[u8], at: usize) -> u32
     ensures { result ≡ word_at s.now at }
 {

@@ -130,7 +130,8 @@ impl Default for Echo {
     }
 }
 
-// The identifier under which CAN echoes what is taken in a role.
+// The identifier under which CAN echoes what is taken in a role. Its column of 01's table is a definition of its own, apart from
+// `sender_load: Items.identifier_for`.
 fn echo_identifier(role: Role) -> u32
     ensures { result ≡ echo_identifier role }
 {

@@ -104,7 +104,7 @@ impl Item<'_> {
         }
     }
 
-    // Whether the item is a faulty serial byte.
+    // Whether the item is a faulty serial byte. This and the one above are a rule of 01 each: one function would have the test as a parameter.
     fn is_faulty_byte(&self) -> bool
         ensures { result ≡ faulty_byte self.now }
     {
