@@ -22,7 +22,7 @@ fn is_good_place(memory: &[u8], place: u32) -> bool
     (at + 8 <= memory.len()) & (octets::byte(memory, at + 1) == 0x5A)
 }
 
-// The search of places, one after the other, up to the first good one.
+// The search of places, one after the other, up to the first good one. The count is part of the answer, and `break` is the form that 01 names.
 #[tactic(auto, using(crate::proofs::Searching::search_found, crate::proofs::Searching::search_on, crate::proofs::Searching::search_none))]
 fn look_in_turn(memory: &[u8], places: &[u32]) -> Search
     requires { length places.now ≤ 6 }

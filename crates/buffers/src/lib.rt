@@ -1,4 +1,4 @@
-// Items written over the first places of a slice, and those from a place on moved to its start.
+// Items written over the first places of a slice, those from a place on moved to its start, and eight bytes read.
 #![tactic(auto)]
 
 ghost use Rattle.std.specs.Prelude.{◌≡◌, ◌-◌, length, drop};
@@ -16,7 +16,8 @@ pub fn fill<T: Copy>(out: &mut [T], items: &[T])
     }
 }
 
-// The first eight bytes, as `octets::first_eight` has them. One byte and eight, which most items have, are moved as a whole.
+// The first eight bytes, as `octets::first_eight` has them. It stands beside that for speed (docs/PERFORMANCE.md): one byte and eight, which most items
+// have, are moved as a whole.
 pub fn eight_of(bytes: &[u8]) -> [u8; 8]
     ensures { result ≡ first_eight bytes.now }
 {

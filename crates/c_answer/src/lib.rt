@@ -12,7 +12,7 @@ pub const ECHO_WIDTH: usize = 8;
 
 pub const ANSWER_WIDTH: usize = 5;
 
-// A flag as 0 or 1.
+// A flag as 0 or 1: C's number of one, with its own definition, which a wrong program tries.
 pub fn flag(is_set: bool) -> u32
     ensures { result ≡ bit is_set }
 {

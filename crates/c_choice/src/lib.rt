@@ -21,7 +21,7 @@ fn mode_number(mode: Mode) -> u32
     }
 }
 
-// The way to boot of a number.
+// The way to boot of a number. Nor is this a From.
 pub fn mode_of(number: u32) -> Mode
     ensures { result ≡ mode_of number }
 {
@@ -48,7 +48,7 @@ fn boot_numbers(boot: Boot) -> [u32; 8]
     ]
 }
 
-// Writes a choice: its numbers and the password selected.
+// Writes a choice: its numbers and the password selected. `c_answer::put` would test their lengths again.
 fn put_choice(fields: &mut [u32], password: &mut [u8], choice: Choice)
     requires { (length fields.old ≡ 8) × (length password.old ≡ 8) }
     ensures { as_choice_reply 0 fields.new password.new ≡ choice_leaves (Some choice) fields.old password.old }

@@ -24,8 +24,8 @@ impl From<Fault> for Due {
 
     ghost from_gives = { λ fault due. due ≡ Due.Fault fault };
 
-    fn from(fault: Fault) -> Due {
-        Due::Fault(fault)
+    fn from(reason: Fault) -> Due {
+        Due::Fault(reason)
     }
 }
 

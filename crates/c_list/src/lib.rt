@@ -76,7 +76,7 @@ fn hand_in_at(
     let at = ANSWER_WIDTH * i;
     let echo = &mut echoes[from..from + ECHO_WIDTH];
     let answer = &mut answers[at..at + ANSWER_WIDTH];
-    let number = c_items::item(session_bytes, session, sram, item, echo, answer);
+    let number = c_items::item(session_bytes, session, sram, item, echo, answer); // a number, by `c_items: Calls.ItemClaim`
     if number == u8::from(Fault::Form) {
         let refused = session_answers::without_echo(Outcome::Refused(Fault::Form));
         c_answer::put_answer(echo, answer, refused);

@@ -34,7 +34,7 @@ pub fn sender_numbers(sender: Sender) -> [u32; SENDER_WIDTH]
     ]
 }
 
-// The flag and the port of a number. Neither is a `From`: no type of theirs is of this crate.
+// The flag of a number, and below it the port. Neither is a `From`: no type of theirs is of this crate.
 pub fn flag_of(number: u32) -> bool
     ensures { result ≡ flag_of number }
 {

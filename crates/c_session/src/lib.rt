@@ -47,7 +47,7 @@ fn stage_number(stage: Stage) -> u32
     }
 }
 
-// The port of a stage.
+// The number of a stage's port, or 0 where it has none.
 fn port_in(stage: Stage) -> u32
     ensures { result ≡ port_in stage }
 {
@@ -130,14 +130,14 @@ pub fn put_session(bytes: &mut [u8], numbers: &mut [u32], session: Session)
     );
 }
 
-// The number at a place, or 0 past the end.
+// The number at a place, or 0 past the end: one call of the library, as `octets::byte` is, each with its own definition.
 pub fn number_at(numbers: &[u32], at: usize) -> u32
     ensures { result ≡ number_at numbers.now at }
 {
     numbers.get(at).copied().unwrap_or(0)
 }
 
-// The port, the load, the refusal and the jump that a stage may have.
+// The port, the load, the refusal and the jump that a stage may have. Their numbers are C's, as above, so that none is read by a `From`.
 #[tactic(auto, unfolding(crate::specs::Reading::port_read))]
 fn read_port(numbers: &[u32]) -> Port
     ensures { result ≡ port_read numbers.now }
@@ -241,7 +241,7 @@ fn has_numbers(session: Session, numbers: &[u32]) -> bool
 }
 
 // The session of bytes and numbers, or one that is not sound where no session has them.
-// It is no `Option`: `session_in`, by which every call for C is stated, has a session for all bytes and numbers.
+// It is no `Option`: `session_in`, by which every call for C that takes a session is stated, has a session for all bytes and numbers.
 #[tactic(auto, unfolding(crate::specs::Reading::session_in, crate::specs::Reading::encodes))]
 pub fn read_session(bytes: &[u8], numbers: &[u32]) -> Session
     ensures { result ≡ session_in (as_flat bytes.now numbers.now) }

@@ -92,7 +92,7 @@ unfoldable pub reads : List ℕ → ℕ → Read
 reads capture at = cond (leb at (length capture)) (found at (drop at capture)) (refused at)
 
 -- "the body as a part of the file's own bytes, not a copy": where it starts in the capture. It ends where the next record starts;
--- for a place past the end it is an empty part at the capture's start
+-- where there is no record it is the place at the end, and 0 past the end
 unfoldable pub body_at : List ℕ → ℕ → ℕ
 body_at capture at =
     cond (leb at (length capture)) ((reads capture at).next - length (reads capture at).body) 0

@@ -101,7 +101,7 @@ fn find_header(bytes: &[u8]) -> Result<(Kind, usize), Damaged>
     Err(Damaged)
 }
 
-// The record at a place, or none at the end of the capture.
+// The record at a place, or none at the end of the capture, or that what stands there is damaged.
 #[tactic(auto, using(crate::proofs::Laws::places))]
 pub fn read<'a>(capture: &'a [u8], at: usize) -> Result<Option<Record<'a>>, Damaged>
     ensures given { as_read at result ≡ reads capture.now at }

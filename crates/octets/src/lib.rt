@@ -1,5 +1,6 @@
-// Reads of a byte and of big-endian numbers that answer for every place of every slice; a number as its bytes; and differences and least
-// numbers, which answer for all numbers.
+// Reads of a byte, of big-endian numbers and of eight bytes that answer for every place of every slice; a number as its bytes; and differences and
+// least numbers, which answer for all numbers. Where a body is one call of the library, the function stays for its promise, which docs/CLAIMS.md
+// names and a wrong program tries.
 #![tactic(auto)]
 
 ghost use Rattle.std.specs.Prelude.{◌≡◌, ◌-◌, min};
@@ -40,7 +41,8 @@ pub fn half(s: &[u8], at: usize) -> u16
     }
 }
 
-// The word at a place. It and `half` are no generic function: the library has no trait of the numbers that have `from_be_bytes`.
+// The word at a place. It and `half` stay two: the clause of one function over the size would be of a list of any length, and the library has no trait of
+// the numbers that have `from_be_bytes`.
 pub fn word(s: &[u8], at: usize) -> u32
     ensures { result ≡ word_at s.now at }
 {

@@ -9,14 +9,17 @@ ghost use Rattle.password.specs.Passing.{allowed_half, legal, passes};
 fn is_allowed(half: u16) -> bool
     ensures { result ≡ allowed_half half }
 {
-    half != 0 && half != 0xFFFF
+    (half != 0) & (half != 0xFFFF)
 }
 
-// Whether none of the four half words is 0x0000 or 0xFFFF.
+// Whether none of the four half words is 0x0000 or 0xFFFF. All are read whatever they hold.
 fn is_legal(password: [u8; 8]) -> bool
     ensures { result ≡ legal password }
 {
-    (0..4).all(|i| is_allowed(octets::half(&password, 2 * i)))
+    is_allowed(octets::half(&password, 0))
+        & is_allowed(octets::half(&password, 2))
+        & is_allowed(octets::half(&password, 4))
+        & is_allowed(octets::half(&password, 6))
 }
 
 // Whether two passwords have the same bytes. All 8 are read whatever they hold, so that the time taken does not tell how many are

@@ -64,7 +64,8 @@ struct Player<'a, E, I, O> {
 
 impl<E: Eprint, I: Read, O: Write> Player<'_, E, I, O> {
     // Reads once behind the bytes that the window holds, unless the input has ended or there is no room: to read no bytes looks like the
-    // end. Returns how many bytes the window holds then. A read that a signal interrupted brings none.
+    // end. Returns how many bytes the window holds then. A read that a signal interrupted brings none. The window is fixed memory, so how many bytes
+    // it holds stands beside it.
     fn read(&mut self, window: &mut [u8], held: usize) -> io::Result<usize>
         requires { held ≤ length window.old }
         ensures { IfOk result (λ have. have ≤ length window.new) }

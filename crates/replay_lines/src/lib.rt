@@ -16,7 +16,7 @@ struct Line {
     start: usize,
 }
 
-// Clauses see the text.
+// Clauses see the text. Each method asks for the places that it fills, so that room before the start is no invariant.
 impl Model for Line {
     ghost Value = { List ℕ };
 
@@ -116,7 +116,7 @@ impl Line {
     }
 }
 
-// A digit of base 16.
+// A digit of base 16, by hand as those of `put_decimal`.
 fn hex_digit(d: u8) -> u8
     requires { d < 16 }
     ensures { result ≡ hex_digit d }

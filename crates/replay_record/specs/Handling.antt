@@ -38,8 +38,8 @@ as_handling session (Ok None) sram = unhandled 0 session sram
 as_handling session (Ok (Some handled)) sram =
     record {
       read = 0;
-      kind = kind_number handled.record.kind;
-      taken = handled.record.next;
+      kind = kind_number handled.kind;
+      taken = handled.next;
       result = result_of handled.result sram;
     }
 

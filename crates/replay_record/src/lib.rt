@@ -45,10 +45,11 @@ pub fn zeroed_sram() -> [u8; 65536]
     [0; 65536]
 }
 
-// A record that was read, and the result of its step.
+// Of a record that was read its kind, where the next one starts, and the result of its step.
 #[derive(Clone, Copy)]
-pub struct Handled<'a> {
-    pub record: Record<'a>,
+pub struct Handled {
+    pub kind: Kind,
+    pub next: usize,
     pub result: StepResult,
 }
 
@@ -72,16 +73,17 @@ fn step_record(session: Session, sram: &mut [u8], read: Record) -> StepResult
 
 // Reads the record with which the bytes begin, and hands it to the session.
 #[tactic(auto, using(crate::proofs::Laws::handled_bad, crate::proofs::Laws::handled_end, crate::proofs::Laws::handled_record))]
-pub fn handle<'a>(
-    bytes: &'a [u8],
+pub fn handle(
+    bytes: &[u8],
     session: Session,
     sram: &mut [u8],
-) -> Result<Option<Handled<'a>>, Damaged>
+) -> Result<Option<Handled>, Damaged>
     ensures { as_handling session result sram.new ≡ handling_of session sram.old (found 0 bytes.now) }
 {
     let Some(record) = capture::read(bytes, 0)? else {
         return Ok(None);
     };
+    let Record { kind, next, .. } = record;
     let result = step_record(session, sram, record);
-    Ok(Some(Handled { record, result }))
+    Ok(Some(Handled { kind, next, result }))
 }

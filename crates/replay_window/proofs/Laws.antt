@@ -30,13 +30,13 @@ use Rattle.replay_window.specs.Turns.{Printed, as_printed, printed_at, printing_
 pub record_within
     : (session : Session) (sram bytes sram' : List ℕ) (handled : Handled)
     → as_handling session (Ok (Some handled)) sram' ≡ handling_of session sram (found 0 bytes)
-    → handled.record.next ≤ length bytes
+    → handled.next ≤ length bytes
 unfolding handling_of
 record_within session sram bytes sram' handled told =
     let number = ap (λ (h : Handling). h.read) told in
     let kind = ap (λ (h : Handling). h.kind) told in
     let next = ap (λ (h : Handling). h.taken) told in
-    let room = found_next 0 bytes (sym number) (λ none. eqb-false (kind_number handled.record.kind) 0 (counted handled.record.kind) (kind ∙ none)) in
+    let room = found_next 0 bytes (sym number) (λ none. eqb-false (kind_number handled.kind) 0 (counted handled.kind) (kind ∙ none)) in
     omega (arith, next, room.1)
 
 -- what is printed of a record, with SRAM after it
@@ -57,9 +57,9 @@ module _ (kept : Carried) (read : Read) (sram' : List ℕ) where
   bad_line = record_line kept.ordinal 10 []
 
   printing_record : (handled : Handled) → Told (Ok (Some handled))
-      → recorded (keeping kept.ordinal handled.result.session sram') handled.record.next (result_of handled.result sram') ≡ printing
+      → recorded (keeping kept.ordinal handled.result.session sram') handled.next (result_of handled.result sram') ≡ printing
   unfolding printing_after
-  printing_record handled told = rw (← told, counted handled.record.kind) refl
+  printing_record handled told = rw (← told, counted handled.kind) refl
 
   printing_end : Told (Ok None) → ends after (closing after) ≡ printing
   unfolding printing_after
@@ -97,10 +97,10 @@ module _ (kept : Carried) (read : Read) (sram' : List ℕ) where
 
     pub record_played : (handled : Handled) → Told (Ok (Some handled)) → (used' : ℕ)
         → as_output out' used' ≡ appended (as_output bytes used) (line_of handled.result)
-        → Played_as record { at = at + handled.record.next; used = used'; ended = false; ordinal = kept.ordinal + 1 } handled.result.session
+        → Played_as record { at = at + handled.next; used = used'; ended = false; ordinal = kept.ordinal + 1 } handled.result.session
     record_played handled told used' e =
         rw (← printing_record handled told)
-        (ap (λ (o : Output). as_call_result record { turn = record { at = at + handled.record.next; used = o.used; ended = false; ordinal = kept.ordinal + 1 }; session = handled.result.session } sram' o.bytes) e)
+        (ap (λ (o : Output). as_call_result record { turn = record { at = at + handled.next; used = o.used; ended = false; ordinal = kept.ordinal + 1 }; session = handled.result.session } sram' o.bytes) e)
 
     -- a text that ends here
     ended_played : (text : List ℕ) (turn : Turn) → ends after text ≡ printing

@@ -17,7 +17,7 @@ use replay_record::{Handled, Progress};
 use session_answers::Echo;
 use session_state::{Session, Stage};
 
-// How far a call is: the next position in the window, how much of the output is used, whether the text has ended, and the ordinal of
+// How far a call is, which the program's `Progress` has in its own fields, as the definitions of both do: the next position in the window, how much of the output is used, whether the text has ended, and the ordinal of
 // the next record.
 #[derive(Clone, Copy)]
 pub struct Turn {
@@ -65,12 +65,12 @@ fn play_record(bytes: &[u8], before: Played, sram: &mut [u8], out: &mut [u8]) ->
 {
     let Played { turn, session } = before;
     match replay_record::handle(bytes, session, sram) {
-        Ok(Some(Handled { record, result })) => {
+        Ok(Some(Handled { next, result, .. })) => {
             let answer = result.answer;
             let number = u8::from(answer.outcome);
             let echo = echo_bytes(&answer.echo);
             let turn = Turn {
-                at: turn.at + record.next,
+                at: turn.at + next,
                 used: replay_lines::record_line(out, turn.used, turn.ordinal, number, echo),
                 ended: false,
                 ordinal: turn.ordinal + 1,

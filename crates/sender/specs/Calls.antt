@@ -19,8 +19,8 @@ use Rattle.sender.specs.declared.Unheard.{Unheard}
 use Rattle.sender.specs.declared.Verdict.{Verdict}
 
 -- The numbers. Beginning: 0, or the number with which the head would answer the header, 3 or 4.
-abbrev pub begun_number : Result Sender Refusal → ℕ
-begun_number (Ok sender) = 0
+abbrev pub begun_number : {A : Type 0} → Result A Refusal → ℕ
+begun_number (Ok begun) = 0
 begun_number (Err refusal) = refusal_number refusal
 
 -- asking and telling: 0, or 1 where there is nothing to do, or 8 for a load that is not sound

@@ -1,4 +1,5 @@
-// The truck's side (02, E1): a load is begun, its items are asked for, and the echoes told.
+// The truck's side (02, E1): a load is begun, its items are asked for, and the echoes told. The image is handed in beside the sender at each call,
+// as C lends it, since a sender is kept as numbers between them.
 #![tactic(auto)]
 
 ghost use Rattle.std.specs.Prelude.{◌≡◌, ◌+◌, ◌^◌, ◌<◌, Ok, true, length};
@@ -25,13 +26,11 @@ pub enum Verdict {
     Abandoned,
 }
 
-// The number of each.
+// The number of why nothing was done.
 impl From<Unheard> for u8 {
     ghost from_gives = { λ unheard number. number ≡ unheard_number unheard };
 
-    fn from(unheard: Unheard) -> u8
-        ensures { result ≡ unheard_number unheard }
-    {
+    fn from(unheard: Unheard) -> u8 {
         match unheard {
             Unheard::Ignored => 1,
             Unheard::Unsound => 8,
@@ -40,7 +39,7 @@ impl From<Unheard> for u8 {
 }
 
 // The number of what beginning says. It is not `answer_number` too: a refusal's number is no `From` (`session_answers::refusal_number`).
-pub fn begun_number(begun: Result<Sender, Refusal>) -> u8
+pub fn begun_number<T: Copy>(begun: Result<T, Refusal>) -> u8
     ensures { result ≡ begun_number begun }
 {
     match begun {
@@ -49,7 +48,7 @@ pub fn begun_number(begun: Result<Sender, Refusal>) -> u8
     }
 }
 
-// The number of what asking or telling says.
+// The number of what asking or telling says. It is no `From`: Result and the number are std's.
 pub fn answer_number<T: Copy>(answer: Result<T, Unheard>) -> u8
     ensures { result ≡ answer_number answer }
 {

@@ -1,4 +1,5 @@
-// What an item does to a session and to SRAM (01, "A serial session"; 02, E2).
+// What an item does to a session and to SRAM (01, "A serial session"; 02, E2). SRAM is lent beside the session, which goes by value, so that a clause
+// gives SRAM its old and new bytes.
 #![tactic(auto)]
 
 ghost use Rattle.std.specs.Prelude.{◌≡◌, ◌+◌, ◌≤◌, true, false, eqb, length};

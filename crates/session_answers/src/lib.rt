@@ -8,7 +8,7 @@ ghost use Rattle.session_answers.specs.Answers.{refusal_number, fault_number, ou
 use session_items::Role;
 use session_state::{Jump, Port, Refusal, Session};
 
-// The echo: the first `length` of `bytes`, for CAN under an identifier, which is 0 for serial and where nothing is echoed. The bytes are eight with
+// The echo: the first `length` of `bytes` (`replay_window` and `sender_echo` cut them by their own definitions), for CAN under an identifier, which is 0 for serial and where nothing is echoed. The bytes are eight with
 // zeroes behind, since an answer for C fills eight places (`c_answer: Writing.echo_bytes`).
 #[derive(Clone, Copy)]
 pub struct Echo {
@@ -66,9 +66,7 @@ pub fn refusal_number(refusal: Refusal) -> u8
 impl From<Fault> for u8 {
     ghost from_gives = { λ fault number. number ≡ fault_number fault };
 
-    fn from(fault: Fault) -> u8
-        ensures { result ≡ fault_number fault }
-    {
+    fn from(fault: Fault) -> u8 {
         match fault {
             Fault::Form => 6,
             Fault::Size => 7,
@@ -81,9 +79,7 @@ impl From<Fault> for u8 {
 impl From<Outcome> for u8 {
     ghost from_gives = { λ outcome number. number ≡ outcome_number outcome };
 
-    fn from(outcome: Outcome) -> u8
-        ensures { result ≡ outcome_number outcome }
-    {
+    fn from(outcome: Outcome) -> u8 {
         match outcome {
             Outcome::Taken => 0,
             Outcome::Ignored => 1,
@@ -119,9 +115,7 @@ fn echo_under(identifier: u32, bytes: &[u8]) -> Echo
 impl Default for Echo {
     ghost is_default = { λ echo. echo ≡ no_echo };
 
-    fn default() -> Echo
-        ensures { result ≡ no_echo }
-    {
+    fn default() -> Echo {
         Echo {
             identifier: 0,
             length: 0,

@@ -50,9 +50,7 @@ impl<'a> Model for Item<'a> {
 impl From<Source> for Port {
     ghost from_gives = { λ source port. port ≡ port_from source };
 
-    fn from(source: Source) -> Port
-        ensures { result ≡ port_from source }
-    {
+    fn from(source: Source) -> Port {
         match source {
             Source::Can(_) => Port::Can,
             Source::Serial(_) => Port::Serial,
@@ -171,7 +169,7 @@ impl Item<'_> {
     }
 }
 
-// A kind is a number in what follows, since these functions answer for every number that a record or a list of C's may have.
+// A kind is a number in what follows, since these functions answer for every number that a caller or a list of C's may have.
 
 // Whether an item of a kind can have so many bytes.
 pub fn is_item(kind: u8, count: u32) -> bool

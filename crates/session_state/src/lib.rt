@@ -16,7 +16,8 @@ pub enum Port {
     Serial,
 }
 
-// A load that has begun: where it starts, whether it is VLE code, the next address and how many bytes are still owed.
+// A load that has begun: where it starts, whether it is VLE code, the next address and how many bytes are still owed. It holds no Jump, though it has one's
+// fields: the definitions go by `load.start` and `load.vle`.
 #[derive(Clone, Copy)]
 pub struct Load {
     pub start: Aligned,

@@ -48,7 +48,7 @@ fn gather(from: usize, held: &[u8], bytes: &[u8]) -> [u8; 16]
     groups
 }
 
-// Stores the groups that are full. A byte that fills none is not gathered.
+// Stores the groups that are full. A byte that fills none is not gathered. It takes what `store` takes, which has tested that there is room.
 #[tactic(auto, using(crate::proofs::Gathering::gathered_written, crate::proofs::Gathering::none_written))]
 fn store_full(
     configuration: Configuration,
