@@ -1,4 +1,5 @@
-// The calls for an item on bytes, numbers and lent memory, as the C interface has them (include/boot_assist.h).
+// The calls for an item on bytes, numbers and lent memory, as the C interface has them (include/boot_assist.h): the
+// numbers that are returned are C's.
 #![tactic(auto)]
 
 ghost use Rattle.std.specs.Prelude.{◌≡◌, [], ◌∷◌};
@@ -41,7 +42,8 @@ impl From<Due> for u8 {
     }
 }
 
-// What comes before an item or a list of them: 7, then 8, then 6, then 9 for an answer that has not its places.
+// What comes before an item or a list of them: 7, then 8, then 6, then 9 for an answer that has not its places. Both
+// calls know whether it has: the flag is the definition's.
 #[tactic(auto, unfolding(crate::specs::Calls::item_precheck))]
 pub fn item_precheck(session: Session, sram: &[u8], formed: bool, placed: bool) -> Result<(), Due>
     ensures { number_or_none result ≡ item_precheck session sram.now formed placed }

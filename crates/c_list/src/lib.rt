@@ -1,5 +1,5 @@
 // The call for a list of items on bytes, numbers and lent memory, as the C interface has it (include/boot_assist.h), with the promise of
-// demand 3 (00) about the whole list.
+// demand 3 (00) about the whole list. The number that is returned is C's.
 #![tactic(auto)]
 
 ghost use Rattle.std.specs.Prelude.{◌≡◌, ◌+◌, ◌*◌, ◌≤◌, true, length};

@@ -1,4 +1,5 @@
-// The calls of a sender on bytes, numbers and lent outputs, as the C interface has them (include/boot_assist.h).
+// The calls of a sender on bytes, numbers and lent outputs, as the C interface has them (include/boot_assist.h): the
+// numbers that are returned and taken are C's.
 #![tactic(auto)]
 
 ghost use Rattle.std.specs.Prelude.{◌≡◌, true};
