@@ -1,5 +1,5 @@
--- What the loop gathers: the bits in which the bytes so far differ.
-use Prim.Native.Nat.{ℕ, zero, suc, ◌+◌, ◌<◌}
+-- What the two loops gather: whether each half word so far is allowed, and the bits in which the bytes so far differ.
+use Prim.Native.Nat.{ℕ, zero, suc, ◌+◌, ◌*◌, ◌<◌}
 use native.Mathlib.Omega.{arith}
 use native.Mathlib.Numerals.{add-one}
 use mathlib.Core.Path.{◌≡◌, refl}
@@ -10,7 +10,14 @@ use lib.Bits.{bit_or, bit_xor, or_add_and, xor_add_and, and_le_l, and_le_r, xor_
 use lib.Dec.{eqb}
 use lib.ListN.{length, get_or, drop}
 use lib.Seq.{drop-cons}
+use Rattle.octets.specs.Read.{half_at}
 use Rattle.octets.specs.Same.{same}
+use Rattle.password.specs.Passing.{allowed_half}
+
+-- the first half words are allowed, as many as asked
+abbrev pub allowed_up_to : List ℕ → ℕ → Bool
+allowed_up_to password zero = true
+allowed_up_to password (suc n) = allowed_up_to password n && allowed_half (half_at password (2 * n))
 
 no_bit-set : (a b : ℕ) → eqb (bit_or a b) 0 ≡ (eqb a 0 && eqb b 0)
 no_bit-set zero b = refl
