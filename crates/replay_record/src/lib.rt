@@ -73,11 +73,7 @@ fn step_record(session: Session, sram: &mut [u8], read: Record) -> StepResult
 
 // Reads the record with which the bytes begin, and hands it to the session.
 #[tactic(auto, using(crate::proofs::Laws::handled_bad, crate::proofs::Laws::handled_end, crate::proofs::Laws::handled_record))]
-pub fn handle(
-    bytes: &[u8],
-    session: Session,
-    sram: &mut [u8],
-) -> Result<Option<Handled>, Damaged>
+pub fn handle(bytes: &[u8], session: Session, sram: &mut [u8]) -> Result<Option<Handled>, Damaged>
     ensures { as_handling session result sram.new ≡ handling_of session sram.old (found 0 bytes.now) }
 {
     let Some(record) = capture::read(bytes, 0)? else {
