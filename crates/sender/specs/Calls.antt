@@ -98,6 +98,14 @@ as_reply answer sender = record { answer = answer; sender = sender }
 unfoldable pub heeded : Sender → List ℕ → Result ⊤ Unheard
 heeded sender image = cond sender.going (cond (sound_load sender image) (Ok tt) (Err Unheard.Unsound)) (Err Unheard.Ignored)
 
+-- with 1 or 8 nothing is given, and the sender is as it was
+abbrev pub gives_none : {A : Type 0} → Unheard → Sender → Reply A
+gives_none unheard sender = as_reply (Err unheard) sender
+
+abbrev pub if_heeded : {A : Type 0} → Result ⊤ Unheard → Sender → Reply A → Reply A
+if_heeded (Ok heard) sender reply = reply
+if_heeded (Err unheard) sender reply = gives_none unheard sender
+
 -- Asking gives the item at the load's place, which is out then; asking again gives the same. Where none is given, what is sent has length 0.
 abbrev pub no_item : Sent
 no_item = sent_from (Source.Can 0) []
@@ -108,16 +116,8 @@ sent_by answer = result_unwrap_or answer no_item
 abbrev pub gives : Sender → List ℕ → Reply Sent
 gives sender image = as_reply (Ok (sent_at sender image)) (standing sender sender.place true)
 
-abbrev pub gives_none : Unheard → Sender → Reply Sent
-gives_none unheard sender = as_reply (Err unheard) sender
-
 unfoldable pub asked : Sender → List ℕ → Reply Sent
-asked sender image =
-    cond sender.going
-    (cond (sound_load sender image)
-    (gives sender image)
-    (gives_none Unheard.Unsound sender))
-    (gives_none Unheard.Ignored sender)
+asked sender image = if_heeded (heeded sender image) sender (gives sender image)
 
 -- Telling. The echo of the last item ends the load, that of another moves it on to the next item, and any other echo abandons it.
 abbrev pub tells : Result Verdict Unheard → Sender → Reply Verdict
@@ -135,10 +135,7 @@ echo_told right sender =
 -- 8 comes before 1 with no item out
 unfoldable pub told : Sender → List ℕ → Port → ℕ → List ℕ → Reply Verdict
 told sender image port identifier bytes =
-    cond sender.going
-    (cond (sound_load sender image)
+    if_heeded (heeded sender image) sender
     (cond sender.out
     (echo_told (is_echo sender.port (echo_due sender image) port identifier bytes) sender)
-    (tells (Err Unheard.Ignored) sender))
-    (tells (Err Unheard.Unsound) sender))
-    (tells (Err Unheard.Ignored) sender)
+    (gives_none Unheard.Ignored sender))

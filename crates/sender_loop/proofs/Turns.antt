@@ -23,7 +23,7 @@ use Rattle.sender_load.specs.Items.{width, role_at, part, sent_at, item_of, stan
 use Rattle.sender_load.specs.Echoes.{echo_due}
 use Rattle.sender.specs.declared.Unheard.{Unheard}
 use Rattle.sender.specs.declared.Verdict.{Verdict}
-use Rattle.sender.specs.Calls.{idle, sent_by, gives, asked, tells, is_last, told}
+use Rattle.sender.specs.Calls.{idle, sent_by, gives, heeded, asked, tells, is_last, told}
 use Rattle.sender_loop.specs.Loop.{Turn, told_back, then_turns, looped, Side, hearing, in_turns}
 use Rattle.sender_loop.proofs.Head.{Steps, at, item_at, echo_at}
 
@@ -56,27 +56,27 @@ module _ (sender : Sender) (image : List ℕ) (place : ℕ) (out : Bool) where
 
 -- asking again gives the same
 pub asks_again : (sender : Sender) (image : List ℕ) → asked (asked sender image).sender image ≡ asked sender image
-unfolding asked
+unfolding asked heeded
 asks_again sender image =
     grind (arith, sound_out sender image sender.place sender.out, part_out sender image sender.place sender.out (role_at sender))
 
 module _ (sender : Sender) (image : List ℕ) (going : sender.going ≡ true) where
   module _ (place : ℕ) (sound : sound_load (at sender place) image ≡ true) where
     asks : asked (at sender place) image ≡ gives (at sender place) image
-    unfolding asked
+    unfolding asked heeded
     asks = rw (sound, going)
 
     tells_other : (identifier : ℕ) (bytes : List ℕ)
         → is_echo sender.port (echo_at sender image place) sender.port identifier bytes ≡ false
         → told (standing sender place true) image sender.port identifier bytes ≡ tells (Ok Verdict.Abandoned) idle
-    unfolding told
+    unfolding told heeded
     tells_other identifier bytes e = rw (sound_out sender image place false, sound, echo_out sender image place false, e, going)
 
     tells-right : (last : Bool) → is_last (at sender place) ≡ last
         → let echo = echo_at sender image place in
         told (standing sender place true) image sender.port echo.identifier (take echo.length echo.bytes)
         ≡ cond last (tells (Ok Verdict.Done) idle) (tells (Ok Verdict.GoesOn) (next_place (at sender place)))
-    unfolding told
+    unfolding told heeded
     tells-right last e =
         let echo = echo_at sender image place in
         rw (sound_out sender image place false, sound, echo_out sender image place false, own_echo sender.port echo, e, going)
