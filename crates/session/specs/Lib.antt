@@ -1,3 +1,4 @@
 pub mod Rules
 pub mod Running
 pub mod Room
+pub mod OneFact

@@ -1,6 +1,5 @@
 -- What the private functions that move a session on ask of their callers: the bytes have their place.
 use Rattle.std.specs.Prelude.{ℕ, ◌+◌, ◌≤◌, ◌≡◌, true}
-use Rattle.std.proofs.Props.{props}
 use Rattle.session_configuration.specs.declared.Configuration.{Configuration}
 use Rattle.sram.specs.Region.{size, base}
 use Rattle.session_state.specs.declared.Load.{Load}
@@ -18,9 +17,3 @@ abbrev pub Room : Role → Session → ℕ → Type 0
 Room Role.Password session count = session.count + count ≤ 8
 Room Role.Header session count = session.count + count ≤ 8
 Room (Role.Data load) session count = LoadRoom session.configuration load count
-
--- one fact, as a ghost field wants it
-pub Room-prop : (role : Role) (session : Session) (count : ℕ) → IsProp (Room role session count)
-Room-prop Role.Password session count = Prim.hlevel props
-Room-prop Role.Header session count = Prim.hlevel props
-Room-prop (Role.Data load) session count = Prim.hlevel props

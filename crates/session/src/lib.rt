@@ -8,7 +8,8 @@ ghost use Rattle.sram.specs.Region.{right_size};
 ghost use Rattle.header.specs.Reading.{header_read, validated};
 ghost use Rattle.session_answers.specs.Answers.{result_of};
 ghost use Rattle.session.specs.Rules.{received, enters, holds, stops, checked, begun, loaded, transition, sram_after, taken_as, stopped_by_faulty_byte, step};
-ghost use Rattle.session.specs.Room.{LoadRoom, Room, Room-prop};
+ghost use Rattle.session.specs.Room.{LoadRoom, Room};
+ghost use Rattle.session.specs.OneFact.{Room-prop};
 
 use session_answers::{Answer, Outcome, StepResult};
 use session_items::{Item, Reaction, Role};
