@@ -33,6 +33,16 @@ put_back list bytes at room =
       append_assoc,
     )
 
+-- a list of the same length is filled whole
+pub fill_whole : (bytes list : List ℕ) → length list ≡ length bytes → filled bytes list ≡ bytes
+unfolding filled
+fill_whole bytes list same =
+    rw (
+      le-leb (length bytes) (length list) (omega arith),
+      drop_of_length-le list {i = length bytes} (omega arith),
+      append-nil,
+    )
+
 -- filling leaves the length
 pub filled-length : (bytes list : List ℕ) → length (filled bytes list) ≡ length list
 unfolding filled

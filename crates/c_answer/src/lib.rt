@@ -74,6 +74,7 @@ pub fn has_room<const BYTES: usize, const NUMBERS: usize>(bytes: &[u8], numbers:
 }
 
 // Writes bytes and numbers, where there are places for them.
+#[tactic(auto, using(buffers::proofs::Lending::fill_whole))]
 pub fn put<const BYTES: usize, const NUMBERS: usize>(
     bytes: &mut [u8],
     numbers: &mut [u32],
@@ -84,8 +85,8 @@ pub fn put<const BYTES: usize, const NUMBERS: usize>(
         ≡ put BYTES NUMBERS (as_flat given_bytes.entry given_numbers.entry) (as_flat bytes.old numbers.old) }
 {
     if has_room::<BYTES, NUMBERS>(bytes, numbers) {
-        bytes.copy_from_slice(&given_bytes);
-        numbers.copy_from_slice(&given_numbers);
+        buffers::fill(bytes, &given_bytes);
+        buffers::fill(numbers, &given_numbers);
     }
 }
 

@@ -49,12 +49,13 @@ fn boot_numbers(boot: Boot) -> [u32; 8]
 }
 
 // Writes a choice: its numbers and the password selected. `c_answer::put` would test their lengths again.
+#[tactic(auto, using(buffers::proofs::Lending::fill_whole))]
 fn put_choice(fields: &mut [u32], password: &mut [u8], choice: Choice)
     requires { (length fields.old ≡ 8) × (length password.old ≡ 8) }
     ensures { as_choice_reply 0 fields.new password.new ≡ choice_leaves (Some choice) fields.old password.old }
 {
-    fields.copy_from_slice(&boot_numbers(choice.boot));
-    password.copy_from_slice(&choice.password);
+    buffers::fill(fields, &boot_numbers(choice.boot));
+    buffers::fill(password, &choice.password);
 }
 
 // The boot choice: writes its 8 numbers and the 8 bytes of the password selected, and returns number 0; or returns number 9.

@@ -30,8 +30,9 @@ fn put_rows(out: &mut [u32], rows: [Row; 5])
     requires { length out.old ≡ 40 }
     ensures { out.new ≡ table_numbers rows }
 {
-    let numbers = rows.map(row_numbers);
-    out.copy_from_slice(numbers.as_flattened());
+    for (i, row) in rows.iter().enumerate() {
+        buffers::fill(&mut out[8 * i..], &row_numbers(*row));
+    }
 }
 
 // Writes the rows, where they are not refused and the output has its length, and returns the number that C gets.
