@@ -1,7 +1,7 @@
 -- How many bytes and numbers there are, and which are those of a session.
 use Prim.Native.Nat.{ℕ, ◌+◌}
 use native.Mathlib.Omega.{arith}
-use mathlib.Core.Path.{◌≡◌, refl, sym, ◌∙◌}
+use mathlib.Core.Path.{◌≡◌, refl, sym, ap, ◌∙◌}
 use mathlib.Core.List.{List, ◌++◌, append-nil}
 use mathlib.Core.Bool.{Bool, true, false, cond, false≢true, and-eq-true_iff}
 use lib.Dec.{eqb}
@@ -9,6 +9,7 @@ use lib.ListN.{length, drop, length-drop, drop_of_length-le, take-append-drop}
 use lib.Seq.{take_at, drop_at}
 use borrow.Author.Tests.{eqb-true}
 use borrow.Rule.Slice.PartMut.{put_mid}
+use Rattle.std.proofs.lemmas.Bool.{false_from_ne_true}
 use Rattle.octets.specs.Read.{first_eight}
 use Rattle.octets.specs.Same.{same}
 use Rattle.octets.proofs.Comparing.{same_equal}
@@ -30,6 +31,12 @@ load-length (Stage.Jumped jump) behind = omega arith
 
 pub session-length : (session : Session) → length (session_numbers session) ≡ session_width
 session-length session = rw (load-length session.stage (configuration_numbers session.configuration))
+
+-- numbers of another count are no session's
+pub other_count : (session : Session) (numbers : List ℕ) → (length numbers ≡ session_width → ⊥) → same (session_numbers session) numbers ≡ false
+other_count session numbers other =
+    false_from_ne_true (same (session_numbers session) numbers)
+    (λ e. other (sym (ap length (same_equal (session_numbers session) numbers e)) ∙ session-length session))
 
 -- the two lists of a session's places
 pub places : (bytes numbers : List ℕ) → session_places (as_flat bytes numbers) ≡ true

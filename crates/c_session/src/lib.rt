@@ -233,11 +233,14 @@ fn unsound(numbers: &[u32]) -> Session
 }
 
 // Whether a session has these numbers.
-#[tactic(auto, using(octets::proofs::Comparing::same_pointwise))]
+#[tactic(auto, using(octets::proofs::Comparing::same_pointwise, crate::proofs::Lengths::other_count))]
 fn has_numbers(session: Session, numbers: &[u32]) -> bool
     ensures { result ≡ same (session_numbers session) numbers.now }
 {
-    session_numbers(session).as_slice() == numbers
+    match numbers.as_array() {
+        Some(given) => session_numbers(session) == *given,
+        None => false,
+    }
 }
 
 // The session of bytes and numbers, or one that is not sound where no session has them.

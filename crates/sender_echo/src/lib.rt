@@ -26,12 +26,17 @@ fn is_heard_under(port: Port, heard: Port, due: u32, identifier: u32) -> bool
     }
 }
 
-// Whether what is heard is the echo due.
+// Whether what is heard is the echo due. Eight bytes, which most echoes have, are compared as a whole, for speed.
 #[tactic(auto, using(std::proofs::lemmas::List::take_min, octets::proofs::Comparing::same_pointwise), unfolding(crate::specs::Hearing::is_echo))]
 pub fn is_echo(port: Port, due: Echo, heard: Heard) -> bool
     ensures { result ≡ is_echo port due heard.entry.port heard.entry.identifier heard.entry.bytes.now }
 {
     let count = octets::least(usize::from(due.length), due.bytes.len());
-    is_heard_under(port, heard.port, due.identifier, heard.identifier)
-        && heard.bytes == &due.bytes[..count]
+    if !is_heard_under(port, heard.port, due.identifier, heard.identifier) {
+        return false;
+    }
+    match heard.bytes.as_array() {
+        Some(eight) if due.length == 8 => *eight == due.bytes,
+        _ => heard.bytes == &due.bytes[..count],
+    }
 }

@@ -115,7 +115,10 @@ impl Sender {
         let role = self.role_at();
         let place = self.place as usize;
         match role {
-            Role::Password => echo_from(role, self.port, &self.configuration.password, place),
+            Role::Password => {
+                let password = self.configuration.password; // lent from here, so that the sender is not copied, for speed
+                echo_from(role, self.port, &password, place)
+            }
             Role::Header => {
                 let header = sender_header::write(
                     self.configuration,
