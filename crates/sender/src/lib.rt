@@ -2,9 +2,9 @@
 // as C lends it, since a sender is kept as numbers between them.
 #![tactic(auto)]
 
-ghost use Rattle.std.specs.Prelude.{◌≡◌, ◌+◌, ◌^◌, ◌<◌, Ok, true, length};
+ghost use Rattle.std.specs.Prelude.{◌≡◌, ◌+◌, ◌^◌, ◌<◌, IfErr, Ok, true, length};
 ghost use Rattle.sender_load.specs.Items.{width};
-ghost use Rattle.sender.specs.Calls.{begun_number, unheard_number, answer_number, head_with, idle, load_begun, heeded, as_reply, asked, echo_told, told};
+ghost use Rattle.sender.specs.Calls.{begun_number, unheard_number, answer_number, head_with, idle, load_begun, left_by, heeded, as_reply, asked, echo_told, told};
 
 use sender_echo::Heard;
 use sender_load::{Sender, Sent};
@@ -84,7 +84,7 @@ pub fn no_load() -> Sender
     }
 }
 
-// Begins a load, unless the head would answer its header with 3 or 4.
+// Begins a load, unless the head would answer its header with 3 or 4: then no load is going, whatever was before.
 #[tactic(auto, using(sender_load::proofs::Laws::fit_length), unfolding(crate::specs::Calls::load_begun))]
 pub fn begin(
     port: Port,
@@ -93,7 +93,8 @@ pub fn begin(
     password: [u8; 8],
     image: &[u8],
 ) -> Result<Sender, Refusal>
-    ensures { result ≡ load_begun port start vle password (length image.now) }
+    ensures begun { result ≡ load_begun port start vle password (length image.now) }
+    ensures refused { IfErr result (λ refusal. left_by result ≡ idle) }
 {
     let configuration = head_with(password);
     let header = sender_header::judge(configuration, start, vle, image.len())?;
