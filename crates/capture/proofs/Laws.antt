@@ -29,7 +29,7 @@ module _ (at : ℕ) where
 
 module _ (capture : List ℕ) (at : ℕ) where
   -- the bytes from a place on, as the code lends them
-  abbrev lent : List ℕ
+  abbrev pub lent : List ℕ
   lent = take (length capture - at) (drop at capture)
 
   pub reads_past : length capture < at → refused at ≡ reads capture at

@@ -108,13 +108,16 @@ pub fn read<'a>(capture: &'a [u8], at: usize) -> Result<Option<Record<'a>>, Dama
     ensures place { IfOk result (λ found. IfSome found (λ one. one.body.ref_ptr ≡ beyond capture.entry.ref_ptr (body_at capture.now at))) }
 {
     if capture.len() < at {
-        return Err(Damaged);
+        return Err(Damaged); // past the end
     }
     let bytes = &capture[at..];
     if bytes.is_empty() {
         return Ok(None);
     }
-    let (kind, size) = find_header(bytes)?;
+    // 01 names this form: the header taken apart by `let .. else`, its else path answering number 10, which is Damaged.
+    let Ok((kind, size)) = find_header(bytes) else {
+        return Err(Damaged);
+    };
     Ok(Some(Record {
         kind,
         body: &bytes[4..4 + size],

@@ -38,6 +38,18 @@ fn complain(rt: &impl Eprint, name: &str, why: impl Display + Drop) {
     let _ = eprintln!(rt; "replay: {name}: {why}");
 }
 
+// Says on standard error why a write to standard output failed, where one did. A write that a signal interrupts is made again, and one
+// that takes nothing has failed.
+fn complain_of_output(rt: &impl Eprint, written: io::Result<()>) {
+    match written {
+        Ok(()) => {}
+        Err(error) if error.kind() == ErrorKind::WriteZero => {
+            let _ = eprintln!(rt; "replay: standard output takes no more");
+        }
+        Err(error) => complain(rt, "standard output", error),
+    }
+}
+
 // How long a window has to be that begins with these bytes, so that the records are played that are whole in them, and nothing behind
 // those: of a window that is not the last, a record is played that begins 14 bytes before its end or earlier. They are at most 13 bytes, which is
 // what a window leaves (`replay_window: Windows.ready`).
@@ -114,13 +126,13 @@ impl<E: Eprint, I: Read, O: Write> Player<'_, E, I, O> {
     }
 }
 
-// Plays the capture that an input brings.
+// Plays the capture that an input brings. A failure of standard output is said here, before the input is closed.
 fn play_capture<'a>(
     rt: &'a impl Eprint,
     name: &'a str,
     input: &'a mut impl Read,
     output: &'a mut impl Write,
-) -> io::Result<()> {
+) {
     let mut player = Player {
         rt,
         name,
@@ -129,19 +141,15 @@ fn play_capture<'a>(
         progress: replay_record::begin(),
         last: false,
     };
-    player.play_all()
+    complain_of_output(rt, player.play_all());
 }
 
 // Plays the capture on standard input.
-fn play_input(
-    rt: &impl Eprint,
-    input: &mut (impl Read + IsTerminal),
-    output: &mut impl Write,
-) -> io::Result<()> {
+fn play_input(rt: &impl Eprint, input: &mut (impl Read + IsTerminal), output: &mut impl Write) {
     if input.is_terminal() {
         let _ = eprintln!(rt; "replay: reading a capture from the terminal");
     }
-    play_capture(rt, "standard input", input, output)
+    play_capture(rt, "standard input", input, output);
 }
 
 // Writes how the program is called, and what it does.
@@ -151,51 +159,34 @@ fn help(output: &mut impl Write) -> io::Result<()> {
 }
 
 // Does what the program's only argument asks. A file's name is text.
-fn follow(rt: &(impl Files + Eprint), word: &[u8], output: &mut impl Write) -> io::Result<()> {
+fn follow(rt: &(impl Files + Eprint), word: &[u8], output: &mut impl Write) {
     if word == b"--help".as_slice() {
-        return help(output);
+        complain_of_output(rt, help(output));
+        return;
     }
     if word.starts_with(b"-".as_slice()) {
         let _ = rt.eprint(USAGE);
-        return Ok(());
+        return;
     }
     let Ok(name) = str::from_utf8(word) else {
         complain(rt, "the argument", "not UTF-8");
-        return Ok(());
+        return;
     };
     match File::open(rt, name) {
         Ok(mut file) => play_capture(rt, name, &mut file, output),
-        Err(error) => {
-            complain(rt, name, error);
-            Ok(())
-        }
+        Err(error) => complain(rt, name, error),
     }
 }
 
-// Does what the arguments ask. What is returned is a failure of standard output.
-fn run(rt: &HostRuntime) -> io::Result<()> {
+fn main(rt: HostRuntime) {
     if !matches!(rt.arg(2, &mut [0u8; 1]), Err(FillError::NotPresent)) {
         let _ = rt.eprint(USAGE);
-        return Ok(());
+        return;
     }
     let mut word = [0u8; 4096];
     match rt.arg(1, &mut word) {
-        Ok(length) => follow(rt, &word[..length], &mut rt.stdout()),
-        Err(FillError::NotPresent) => play_input(rt, &mut rt.stdin(), &mut rt.stdout()),
-        Err(FillError::TooLong) => {
-            complain(rt, "the argument", "File name too long");
-            Ok(())
-        }
-    }
-}
-
-// A write that a signal interrupts is made again, and one that takes nothing has failed.
-fn main(rt: HostRuntime) {
-    match run(&rt) {
-        Ok(()) => {}
-        Err(error) if error.kind() == ErrorKind::WriteZero => {
-            let _ = eprintln!(&rt; "replay: standard output takes no more");
-        }
-        Err(error) => complain(&rt, "standard output", error),
+        Ok(length) => follow(&rt, &word[..length], &mut rt.stdout()),
+        Err(FillError::NotPresent) => play_input(&rt, &mut rt.stdin(), &mut rt.stdout()),
+        Err(FillError::TooLong) => complain(&rt, "the argument", "File name too long"),
     }
 }

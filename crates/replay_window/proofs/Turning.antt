@@ -60,7 +60,7 @@ module _ (window : List ℕ) (last : Bool) (kept : Carried) (first : List ℕ) (
   Tested t = t ≡ ready_in (length window - played.turn.at) last (length out - played.turn.used) played.turn.ended played.turn.ordinal
 
   -- the output keeps its length
-  turning_long : length out ≡ length first
+  pub turning_long : length out ≡ length first
   turning_long =
       ap length here.wrote
       ∙ length-append here.text (drop (length here.text) first)
@@ -72,7 +72,7 @@ module _ (window : List ℕ) (last : Bool) (kept : Carried) (first : List ℕ) (
   ready_same t e = e ∙ rw (here.used, turning_long)
 
   -- what it means: the text has not ended, and the next record's text and ordinal have room
-  turning_room : (t : Bool) → Tested t → t ≡ true
+  pub turning_room : (t : Bool) → Tested t → t ≡ true
       → (played.turn.ended ≡ false) × (played.turn.used + 96 ≤ length out) × (played.turn.ordinal < 0xFFFF_FFFF_FFFF_FFFF)
   turning_room t e yes-ready = (grind (arith, nat_tests), grind (arith, nat_tests), grind (arith, nat_tests))
 
