@@ -53,7 +53,7 @@ pub fn begin(
         octets::first_eight(password),
         image,
     );
-    put_sender(sender_bytes, sender, begun.unwrap_or(sender::no_load()));
+    put_sender(sender_bytes, sender, sender::left_by(begun));
     sender::begun_number(begun)
 }
 

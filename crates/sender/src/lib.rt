@@ -2,7 +2,7 @@
 // as C lends it, since a sender is kept as numbers between them.
 #![tactic(auto)]
 
-ghost use Rattle.std.specs.Prelude.{◌≡◌, ◌+◌, ◌^◌, ◌<◌, IfErr, Ok, true, length};
+ghost use Rattle.std.specs.Prelude.{◌≡◌, ◌+◌, ◌^◌, ◌<◌, Ok, true, length};
 ghost use Rattle.sender_load.specs.Items.{width};
 ghost use Rattle.sender.specs.Calls.{begun_number, unheard_number, answer_number, head_with, idle, load_begun, left_by, heeded, as_reply, asked, echo_told, told};
 
@@ -84,7 +84,7 @@ pub fn no_load() -> Sender
     }
 }
 
-// Begins a load, unless the head would answer its header with 3 or 4: then no load is going, whatever was before.
+// Begins a load, unless the head would answer its header with 3 or 4.
 #[tactic(auto, using(sender_load::proofs::Laws::fit_length), unfolding(crate::specs::Calls::load_begun))]
 pub fn begin(
     port: Port,
@@ -93,8 +93,7 @@ pub fn begin(
     password: [u8; 8],
     image: &[u8],
 ) -> Result<Sender, Refusal>
-    ensures begun { result ≡ load_begun port start vle password (length image.now) }
-    ensures refused { IfErr result (λ refusal. left_by result ≡ idle) }
+    ensures { result ≡ load_begun port start vle password (length image.now) }
 {
     let configuration = head_with(password);
     let header = sender_header::judge(configuration, start, vle, image.len())?;
@@ -108,6 +107,13 @@ pub fn begin(
         place: 0,
         out: false,
     })
+}
+
+// The sender that beginning leaves: where a load is refused none is going, whatever was before.
+pub fn left_by(begun: Result<Sender, Refusal>) -> Sender
+    ensures { result ≡ left_by begun }
+{
+    begun.unwrap_or(no_load())
 }
 
 // Whether a load is going, and is sound.
