@@ -26,7 +26,7 @@ fn is_heard_under(port: Port, heard: Port, due: u32, identifier: u32) -> bool
     }
 }
 
-// Whether what is heard is the echo due. Eight bytes, which most echoes have, are compared as a whole, for speed.
+// Whether what is heard is the echo due. Eight bytes, as a full frame's echo has, are compared as a whole, for speed.
 #[tactic(auto, using(std::proofs::lemmas::List::take_min, octets::proofs::Comparing::same_pointwise), unfolding(crate::specs::Hearing::is_echo))]
 pub fn is_echo(port: Port, due: Echo, heard: Heard) -> bool
     ensures { result ≡ is_echo port due heard.entry.port heard.entry.identifier heard.entry.bytes.now }
