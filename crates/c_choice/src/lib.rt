@@ -48,7 +48,7 @@ fn boot_numbers(boot: Boot) -> [u32; 8]
     ]
 }
 
-// Writes a choice: its numbers and the password selected. `c_answer::put` would test their lengths again.
+// Writes a choice: its numbers and the password selected.
 #[tactic(auto, using(buffers::proofs::Lending::fill_whole))]
 fn put_choice(fields: &mut [u32], password: &mut [u8], choice: Choice)
     requires { (length fields.old ≡ 8) × (length password.old ≡ 8) }
